@@ -1,0 +1,3 @@
+pub mod Truth
+pub mod Rows
+pub mod Pairs

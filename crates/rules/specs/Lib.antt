@@ -1,0 +1,5 @@
+pub mod Limits
+pub mod Refusals
+pub mod Votes
+pub mod Tables
+pub mod Closing
