@@ -1,19 +1,20 @@
--- Which forms a row has, and which pairs rows permit: where there is none, and how a pair is read off its row.
+-- Which forms a row has and which pairs rows permit, read off the bits.
 use mathlib.Core.Path.{_≡_, refl, _∙_}
 use mathlib.Core.Bool.{false, _&&_}
 use mathlib.Core.List.{List}
 use Prim.Native.Nat.{ℕ, _+_, _-_, _*_, _/_, _%_, _^_, _<_, _≤_}
 use native.Mathlib.Decide.{decLt}
-use native.Mathlib.Nat.{div-eq-of-lt, zero-div}
+use native.Mathlib.Nat.{div-eq-of-lt}
 use native.Mathlib.Omega.{arith}
 use lib.Dec.{T, eqb, leb}
 use lib.ListN.{length, getD}
 use lib.Pow.{pow-mono}
 use Rattle.std.proofs.shelf.Bits.{pow-pos, pow-add, leading-top, le-div, div-below}
 use Rattle.std.proofs.shelf.Lists.{getD-past}
-use Rattle.std.proofs.shelf.Tests.{and-left, and-right, and-parts, and-from, le-leb, lt-leb, leb-true}
-use Rattle.rules.specs.Limits.{max-forms, Within}
+use Rattle.std.proofs.shelf.Tests.{and-left, and-parts, le-leb, lt-leb, leb-true}
+use Rattle.rules.specs.Limits.{Within}
 use Rattle.rules.specs.Tables.{in-row, permits, IsTable}
+use Rattle.rules.specs.Partial.{Bounded}
 use Rattle.rules.proofs.Truth.{is-true, passes, fails}
 
 pub in-row-zero : (row b : ℕ) → b ≡ 0 → in-row row b ≡ false
@@ -31,11 +32,13 @@ in-row-past row b c h l =
     let s : row < 2 ^ (b - 1) = omega (arith, pow-mono {i = c} {j = b - 1} m) in
     in-row-at row b (omega arith) ∙ rw (div-eq-of-lt {n = row} {m = 2 ^ (b - 1)} s)
 
--- so its forms are from 1 to c
-pub in-row-within : (row b c : ℕ) → row < 2 ^ c → T (in-row row b) → Within c b
+pub in-row-first : (row b : ℕ) → T (in-row row b) → 1 ≤ b
 unfolding in-row
+in-row-first row b h = leb-true 1 b (and-parts (leb 1 b) _ (is-true _ h) .0)
+
+pub in-row-within : (row b c : ℕ) → row < 2 ^ c → T (in-row row b) → Within c b
 in-row-within row b c small h = (
-  leb-true 1 b (and-parts (leb 1 b) _ (is-true _ h) .0),
+  in-row-first row b h,
   elim (decLt c b) [ yes past ↦ absurd (fails _ (in-row-past row b c small past) h) | no near ↦ omega arith ],
 )
 
@@ -89,9 +92,19 @@ permits-first rows a b h =
 pub permits-second : (rows : List ℕ) (a b c : ℕ) → getD rows (a - 1) 0 < 2 ^ c → T (permits rows a b) → Within c b
 permits-second rows a b c small h = in-row-within _ b c small (permits-row rows a b h .1)
 
+-- and the other way round, from the place of the row
+pub row-permits : (rows : List ℕ) (k b : ℕ) → T (in-row (getD rows k 0) b) → T (permits rows (k + 1) b)
+row-permits rows k b h =
+    let back : k + 1 - 1 ≡ k = omega arith in
+    passes _ (permits-at rows (k + 1) b (omega arith) ∙ rw back (is-true _ h))
+
 -- the rows of a table are below 2 to the power of its size
 pub table-row : (rows : List ℕ) (size k : ℕ) → getD rows k 0 < 2 ^ 16 → IsTable rows size → getD rows k 0 < 2 ^ size
-table-row rows size k typed t =
-    let back : k + 1 - 1 ≡ k = omega arith in
-    row-below (getD rows k 0) size typed (λ b h.
-    t .inside (k + 1) b (passes _ (permits-at rows (k + 1) b (omega arith) ∙ rw back (is-true _ h))))
+table-row rows size k typed t = row-below (getD rows k 0) size typed (λ b h. t .inside (k + 1) b (row-permits rows k b h))
+
+pub table-bounded : (rows : List ℕ) (size : ℕ) → IsTable rows size → Bounded rows
+unfolding Bounded
+table-bounded rows size t a b h =
+    let first = permits-first rows a b h in
+    let second = in-row-first (getD rows (a - 1) 0) b (permits-row rows a b h .1) in
+    ((first .0, omega (arith, t .height .1, first .1)), (second, omega (arith, t .width .1, t .inside a b h)))

@@ -3,3 +3,4 @@ pub mod Refusals
 pub mod Votes
 pub mod Tables
 pub mod Closing
+pub mod Partial

@@ -1,4 +1,4 @@
--- The limits of the product, each stated here and nowhere else. Assumes nothing.
+-- The limits of the product, as contracts cite them; code has them from rules::limits. Assumes nothing.
 use Prim.Native.Nat.{ℕ, _≤_}
 
 -- the most labels that a panel has
@@ -17,6 +17,6 @@ max-tables = 80
 abbrev pub max-rule : ℕ
 max-rule = 999
 
--- k counts from 1 up to n, as labels, forms, sizes and rules do
+-- k is from 1 to n
 abbrev pub Within : ℕ → ℕ → Type 0
 Within n k = (1 ≤ k) × (k ≤ n)

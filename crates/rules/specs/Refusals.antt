@@ -5,7 +5,7 @@ use Rattle.std.specs.declared.result.Result.the-variants.{Ok, Err}
 use Rattle.rules.specs.declared.refusal.Refusal.{Refusal}
 use Rattle.rules.specs.declared.refusal.Refusal.the-variants.{OutsideLimits, NoLabel, NoForm, NoTable, NotClosed, NoFitting, NotOffered, AllPicked, NoPick, ShortBuffer, NotHeld, NoSheet, WrongRule}
 
--- when each comes is said at the cases of the enum
+-- the number of each case of the enum, where it is said when the case comes
 abbrev pub refusal-number : Refusal → ℕ
 refusal-number OutsideLimits = 1
 refusal-number NoLabel = 2

@@ -10,11 +10,12 @@ use Rattle.rules.specs.Limits.{max-forms, Within}
 abbrev pub Table : Type 0
 Table = ℕ → ℕ → Bool
 
--- form b is in the row: the bit worth 2 to the power b − 1 is set
+-- a row has form b where its bit b − 1 is set, the lowest bit being bit 0; no row has form 0
 unfoldable pub in-row : ℕ → ℕ → Bool
 in-row row b = leb 1 b && eqb (row / 2 ^ (b - 1) % 2) 1
 
--- the rows permit form a of the first label with form b of the second: row a has form b
+-- the rows permit form a of the first label with form b of the second: the a-th row has form b; there is no row 0, and
+-- past the last row nothing is permitted
 unfoldable pub permits : List ℕ → Table
 permits rows a b = leb 1 a && in-row (getD rows (a - 1) 0) b
 

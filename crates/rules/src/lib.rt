@@ -18,6 +18,7 @@ pub use refusal::RefusalEq;
 pub use refusal::RefusalPartialEq;
 pub use refusal::number_of;
 pub use rule::Rule;
+pub use table::ROW_BITS;
 pub use table::has_form;
 pub use table::has_pair;
 pub use table::is_table;

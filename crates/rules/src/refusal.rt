@@ -1,35 +1,35 @@
 ghost use mathlib.Core.Path.{_≡_};
 ghost use Rattle.rules.specs.Refusals.{refusal-number, returned-number};
 
-// Why a call of the product was refused. Each case has a fixed number; 0 means done and is no refusal.
+// Why a call of the product was refused. A case keeps its number for good; 0 is left for a call that was done.
 #[derive(Clone, Copy, PartialEq, Eq, Debug)]
 pub enum Refusal {
-    // More than 16 labels, a size outside 1 to 16, or more than 80 tables in a sheet.
+    // More labels than a panel has, a size that no label has, or more tables than a sheet has.
     OutsideLimits = 1,
-    // A label outside the panel, or a first label that is not below the second.
+    // A label that the panel lacks, or two labels of which the first is not the lower.
     NoLabel = 2,
-    // A form outside 1 to the size of its label.
+    // A form that its label lacks.
     NoForm = 3,
-    // The wrong number of rows, a bit past the size of the second label, a row of a narrowing above the size of
-    // the first label that is not 0, or a cell of a sheet that is neither 0 nor 1.
+    // Too few or too many rows; a row with a form that the second label lacks; in a narrowing, a row other than 0 for a
+    // form that the first label lacks; in a sheet, a cell other than 0 and 1.
     NoTable = 4,
-    // A table that is not closed under the rule.
+    // The table is not closed under the rule.
     NotClosed = 5,
-    // A panel that has no fitting.
+    // Nothing fits: the panel has no fitting.
     NoFitting = 6,
-    // A form that is not offered.
+    // The form is not offered.
     NotOffered = 7,
-    // Every label is picked.
+    // No label is left to pick for.
     AllPicked = 8,
-    // No pick stands.
+    // There is no pick to take back.
     NoPick = 9,
-    // A lent buffer shorter than the bytes due.
+    // The lent buffer has no room for all bytes that are due.
     ShortBuffer = 10,
-    // A table that the book cannot hold.
+    // The book has no way to hold the table.
     NotHeld = 11,
-    // Bytes that are not in the form of a sheet.
+    // The bytes are laid out as no sheet is.
     NoSheet = 12,
-    // A sheet that names another rule than the book's, or a head to be written with a rule outside 1 to 999.
+    // The sheet is for another rule than the book, or a head to be written has a rule number outside 1 to 999.
     WrongRule = 13,
 }
 

@@ -3,12 +3,12 @@ ghost use Prim.Native.Nat.{ℕ};
 ghost use Rattle.rules.specs.Limits.{max-rule, Within};
 ghost use Rattle.rules.specs.Votes.{Vote, Majority, Chosen, Same-vote, greatest, middle};
 
-// A rule takes three forms and gives one, its vote.
+// A way to choose one of three forms: its vote.
 pub trait Rule {
-    // The number by which sheets name the rule.
+    // The number by which sheets name the rule, for code that wants a constant. No law or contract can name it.
     const NUMBER: u16;
 
-    // The same number for clauses, which cannot see a trait's constant.
+    // The number that the laws speak of.
     ghost numbered: { ℕ };
 
     // The vote on every three numbers.
@@ -20,12 +20,12 @@ pub trait Rule {
 
     law range: { Within max-rule numbered };
 
-    // Whoever takes the number 1 or 2 has the vote of that rule.
+    // A rule that takes the number 1 or 2 votes as that rule does.
     law one: { numbered ≡ 1 → Same-vote voted greatest };
 
     law two: { numbered ≡ 2 → Same-vote voted middle };
 
-    // The rule's number, which generic code asks for: what it ensures reaches the laws. An impl answers its NUMBER.
+    // The number that the laws speak of, for generic code to ask. An impl answers its NUMBER.
     fn rule_number() -> u16
         ensures { λ r. ⌜ r ≡ numbered ⌝ };
 

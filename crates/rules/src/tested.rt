@@ -4,10 +4,10 @@ use crate::closed::closed;
 use crate::rule::Rule;
 use crate::table::is_table;
 
-// A rule with its test. It stands apart from Rule, since a body in a trait cannot hand `Self` to a function with a
-// bound on the same trait. A rule that knows a faster test may write `accepts` itself, behind the same contract.
+// A rule with its test. It stands apart from Rule because the body of a trait's method cannot pass `Self` to a function
+// that is bounded by the same trait. A rule with a faster test may write `accepts` itself, behind the same contract.
 pub trait Tested: Rule {
-    // Whether the rows are a table, where the second label has `size` forms, and closed under the rule.
+    // Whether the rows are a table for a second label of `size` forms, and closed under the rule.
     fn accepts(rows: &[u16], size: u8) -> bool
         ensures { λ r. ⌜ Decides r (Accepted (Self·Rule .voted) (now (rows .entry)) size) ⌝ }
     {

@@ -16,7 +16,7 @@ const CASES: [(&[u16], u8, bool, bool); 11] = [
     (&[0b001, 0b010, 0b100], 3, true, true),
     (&[0b1011, 0b1000], 4, true, true),
     (&[0, 0, 0], 3, true, true),
-    // No table: a bit past the size, seventeen rows, no rows, and sizes outside 1 to 16.
+    // Not tables: a form too many, too many rows, none at all, and two sizes that no label has.
     (&[0b1000], 3, false, false),
     (&[0; 17], 3, false, false),
     (&[], 3, false, false),
@@ -33,7 +33,7 @@ fn verdicts() -> Result<(), Fail> {
     Ok(())
 }
 
-// A proof under a bound cannot see a trait's constant, so that it agrees with the function is tested.
+// No contract can name the constant of a trait, so a test compares it with what the function answers.
 #[test]
 fn numbers() -> Result<(), Fail> {
     check_eq(Greatest::NUMBER, Greatest::rule_number())?;

@@ -28,13 +28,13 @@ pub record Breaks (vote : Vote) (t : Table) (w : Witness) : Type 0 where
   pub second : w .vote .1 ≡ vote (w .one .1) (w .two .1) (w .three .1)
   pub outside : Has t (w .vote) → ⊥
 
--- rows that are no table are told apart from tables that are not closed
+-- the verdict is right, and one of not closed comes with its reason
 abbrev pub Judged : Vote → List ℕ → ℕ → Verdict → Type 0
 Judged vote rows size Taken = Accepted vote rows size
 Judged vote rows size NoTable = IsTable rows size → ⊥
 Judged vote rows size (NotClosed w) = IsTable rows size × Breaks vote (permits rows) w
 
--- what the product returns for rows with this verdict
+-- the result that stands for the verdict, so that it can be shown by its number
 abbrev pub returned : Verdict → Result (Unit {0}) Refusal
 returned Taken = Ok tt
 returned NoTable = Err refusals.NoTable

@@ -1,10 +1,10 @@
-ghost use Rattle.tour.specs.Drawing.{Shows-all};
+ghost use Rattle.tour.specs.Drawing.{Last-column};
+use rules::ROW_BITS;
 use rules::has_form;
-use rules::limits::MAX_FORMS;
 use std::fmt;
 
-// A table as a grid: a line for each form of the first label and a column for each of the second. A bar cuts off what
-// lies past the size.
+// A table as a grid: lines are forms of the first label, columns forms of the second. A bar cuts off what lies past
+// the size.
 #[derive(Clone, Copy)]
 pub struct Grid<'a> {
     pub rows: &'a [u16],
@@ -13,19 +13,20 @@ pub struct Grid<'a> {
 
 // The last column to draw: the size, or the last form in the rows where that lies past it.
 fn last_column(rows: &[u16], size: u8) -> u8
-    ensures { λ r. ⌜ Shows-all (now (rows .entry)) size r ⌝ }
+    ensures { λ r. ⌜ Last-column (now (rows .entry)) size r ⌝ }
 {
     let mut last = size;
     for row in rows {
-        for b in 1..=MAX_FORMS {
-            if b > last && has_form(*row, b) {
-                last = b;
+        for b in 1..=ROW_BITS {
+            if has_form(*row, b) {
+                last = last.max(b);
             }
         }
     }
     last
 }
 
+// The bar stands before the first column past the size. (The size may be 255, so one more is not formed.)
 fn write_bar<W: fmt::Write>(b: u8, size: u8, f: &mut fmt::Formatter<W>) -> fmt::Result {
     if b > size && b - size == 1 {
         write!(f, "  |")

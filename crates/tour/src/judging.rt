@@ -22,7 +22,7 @@ pub fn judge<R: Tested>(rows: &[u16], size: u8) -> Verdict
     }
 }
 
-// What the product returns for such rows.
+// The result that stands for the verdict, for its number.
 pub fn outcome(verdict: Verdict) -> Result<(), Refusal>
     ensures { λ r. ⌜ r ≡ returned verdict ⌝ }
 {

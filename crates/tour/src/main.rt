@@ -1,7 +1,4 @@
 // A tour of the fitter. A maker brings rows for two labels; each is drawn and judged under both rules.
-ghost use Prim.Native.Nat.{_≤_};
-ghost use lib.ListN.{length};
-
 mod grid;
 mod judging;
 mod row_list;
@@ -22,6 +19,7 @@ use rules::GreatestTested;
 use rules::Middle;
 use rules::MiddleRule;
 use rules::MiddleTested;
+use rules::Refusal;
 use rules::Tested;
 use rules::limits;
 use sample::SAMPLES;
@@ -31,23 +29,21 @@ use saying::SayingDisplay;
 use std::io;
 
 fn introduce(rt: &impl Print) -> io::Result<()> {
-    let limits::Limits {
-        labels,
-        forms,
-        tables,
-        rule,
-    } = limits::in_force();
+    let most = limits::in_force();
     println!(
         rt,
-        "A panel has up to {labels} labels, each with up to {forms} forms of its wording."
+        "A panel has up to {} labels, each with up to {} forms of its wording.",
+        most.labels, most.forms
     )?;
     println!(
         rt,
-        "A table says which forms of two labels may stand together; a sheet has up to {tables} tables."
+        "A table says which forms of two labels may stand together; a sheet has up to {} tables.",
+        most.tables
     )?;
     println!(
         rt,
-        "A rule has a number up to {rule} and votes on three forms: for one that comes twice,"
+        "A rule, numbered 1 to {}, votes on three forms: for one that comes twice,",
+        most.rule
     )?;
     println!(
         rt,
@@ -55,11 +51,13 @@ fn introduce(rt: &impl Print) -> io::Result<()> {
     )?;
     println!(
         rt,
-        "A rule takes a table if any three of its pairs vote for a pair of it."
+        "A table is closed if every three of its pairs vote for a pair of it, and then the rule takes it."
     )?;
+    let no_table = Refusal::NoTable.number();
+    let not_closed = Refusal::NotClosed.number();
     println!(
         rt,
-        "0 is the number of what is taken, 4 of rows that are no table, 5 of a table that is not closed."
+        "0 stands for taken, {no_table} for no table, {not_closed} for not closed."
     )
 }
 
@@ -74,7 +72,7 @@ fn visit(rt: &impl Print, place: usize, sample: Sample) -> io::Result<()> {
     let count = rows.len();
     println!(
         rt,
-        "\n{place}. rows ({count}): {}, second label of {size} forms",
+        "\n{place}. {count} rows: {}; size of the second label: {size}",
         RowList(rows)
     )?;
     println!(rt, "{}", Grid { rows, size })?;
@@ -82,29 +80,10 @@ fn visit(rt: &impl Print, place: usize, sample: Sample) -> io::Result<()> {
     judge_by::<Middle>(rt, sample)
 }
 
-// How many of the samples the rule takes.
-fn count_taken<R: Tested>(samples: &[Sample]) -> usize
-    ensures { λ r. ⌜ r ≤ length (now (samples .entry)) ⌝ }
-{
-    let mut taken = 0;
-    for sample in samples {
-        if R::accepts(sample.rows, sample.size) {
-            taken += 1;
-        }
-    }
-    taken
-}
-
 fn main(rt: LibcRuntime) -> io::Result<()> {
     introduce(&rt)?;
     for (k, sample) in SAMPLES.iter().enumerate() {
         visit(&rt, k + 1, *sample)?;
     }
-    let one = count_taken::<Greatest>(&SAMPLES);
-    let two = count_taken::<Middle>(&SAMPLES);
-    let all = SAMPLES.len();
-    println!(
-        rt,
-        "\nOf the {all}, rule 1 takes {one} and rule 2 takes {two}."
-    )
+    Ok(())
 }

@@ -1,5 +1,5 @@
+use rules::ROW_BITS;
 use rules::has_form;
-use rules::limits::MAX_FORMS;
 use std::fmt;
 
 // The forms of each row, with bars between the rows, as in `1,2 | 3`; a row without a form is a dash.
@@ -11,7 +11,7 @@ fn write_forms<W: fmt::Write>(row: u16, f: &mut fmt::Formatter<W>) -> fmt::Resul
         return write!(f, "-");
     }
     let mut some = false;
-    for b in 1..=MAX_FORMS {
+    for b in 1..=ROW_BITS {
         if has_form(row, b) {
             let comma = if some { "," } else { "" };
             write!(f, "{comma}{b}")?;
@@ -24,7 +24,7 @@ fn write_forms<W: fmt::Write>(row: u16, f: &mut fmt::Formatter<W>) -> fmt::Resul
 pub impl fmt::Display for RowList<'_> as RowListDisplay {
     fn fmt<W: fmt::Write>(&self, f: &mut fmt::Formatter<W>) -> fmt::Result {
         if self.0.is_empty() {
-            return write!(f, "no rows");
+            return write!(f, "none");
         }
         for (k, row) in self.0.iter().enumerate() {
             if k > 0 {

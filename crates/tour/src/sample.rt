@@ -1,6 +1,6 @@
 // The tables that the tour judges.
 
-// Rows as a maker lends them, and the size of the second label.
+// Rows as a maker lends them, for a second label of so many forms.
 #[derive(Clone, Copy)]
 pub struct Sample {
     pub rows: &'static [u16],
@@ -32,7 +32,7 @@ pub const SAMPLES: [Sample; 9] = [
         rows: &[0, 0, 0],
         size: 3,
     },
-    // No tables: a bit past the size, seventeen rows, and no rows.
+    // Not tables: a form too many, too many rows, and none at all.
     Sample {
         rows: &[0b001, 0b1010],
         size: 3,

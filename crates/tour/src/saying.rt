@@ -1,6 +1,5 @@
 use crate::judging::outcome;
 use crate::verdict::Verdict;
-use crate::witness::Witness;
 use rules::Pair;
 use rules::number_of;
 use std::fmt;
@@ -31,15 +30,13 @@ pub impl fmt::Display for Saying as SayingDisplay {
         match self.verdict {
             Verdict::Taken => write!(f, "taken"),
             Verdict::NoTable => write!(f, "no table"),
-            Verdict::NotClosed(
-                Witness {
-                    one,
-                    two,
-                    three,
-                    vote,
-                },
-            ) => {
-                let [one, two, three, vote] = [Shown(one), Shown(two), Shown(three), Shown(vote)];
+            Verdict::NotClosed(witness) => {
+                let [one, two, three] = [
+                    Shown(witness.one),
+                    Shown(witness.two),
+                    Shown(witness.three),
+                ];
+                let vote = Shown(witness.vote);
                 write!(
                     f,
                     "not closed: {one} {two} {three} vote for {vote}, which is not in the table"

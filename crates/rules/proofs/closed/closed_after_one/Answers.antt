@@ -1,7 +1,7 @@
 use mathlib.Core.Path.{refl}
 use native.Mathlib.Omega.{arith}
 use Rattle.rules.specs.Tables.{permits}
-use Rattle.rules.specs.Closing.{Closed-after-two}
+use Rattle.rules.specs.Partial.{Closed-after-two}
 use Rattle.rules.proofs.Pairs.{rows-more, all-pairs}
 use Rattle.rules.proofs.closed.closed_after_one.Needs as need
 
@@ -11,6 +11,6 @@ loop-c-again g c =
 
 pub returns : need.returns
 returns g c = (
-  λ _. all-pairs (c .args .rows .now) (Closed-after-two (g .R·Rule .voted) (permits (c .args .rows .now)) (c .args .one .0) (c .args .one .1)) (λ k. omega (arith, c .typed .rows k)) (c .pre) (λ a h. c .loop-c .inv a (omega arith)),
+  λ _. all-pairs (c .args .rows .now) (Closed-after-two (g .R·Rule .voted) (permits (c .args .rows .now)) (c .args .one .0) (c .args .one .1)) (c .pre) (λ a h. c .loop-c .inv a (omega arith)),
   λ _. refl,
 )

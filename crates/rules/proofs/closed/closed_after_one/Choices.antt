@@ -1,5 +1,5 @@
 use Rattle.rules.specs.Tables.{permits}
-use Rattle.rules.specs.Closing.{Closed-after-two}
+use Rattle.rules.specs.Partial.{Closed-after-two}
 use Rattle.rules.proofs.Pairs.{Rows-before, Row-before}
 use Rattle.rules.proofs.closed.closed_after_one.Given as given
 

@@ -11,6 +11,6 @@ loop-e-again g c =
 
 pub returns : need.returns
 returns g c = (
-  λ _. all-pairs (c .args .rows .now) (Votes-in (g .R·Rule .voted) (permits (c .args .rows .now)) (c .args .one .0) (c .args .one .1) (c .args .two .0) (c .args .two .1)) (λ k. omega (arith, c .typed .rows k)) (c .pre) (λ a h. c .loop-e .inv a (omega arith)),
+  λ _. all-pairs (c .args .rows .now) (Votes-in (g .R·Rule .voted) (permits (c .args .rows .now)) (c .args .one .0) (c .args .one .1) (c .args .two .0) (c .args .two .1)) (c .pre) (λ a h. c .loop-e .inv a (omega arith)),
   λ _. refl,
 )

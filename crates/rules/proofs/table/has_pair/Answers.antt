@@ -7,12 +7,12 @@ use Rattle.rules.proofs.table.has_pair.Needs.{then-a-eq0·by·then-a-eq0, then
 pub returns-then-a-eq0 : need.returns-then-a-eq0
 returns-then-a-eq0 c =
     let rows = c .args .rows .now in
-    let a = c .args .a in
-    let b = c .args .b in
+    let a = c .args .pair .0 in
+    let b = c .args .pair .1 in
     elim (c .then-a-eq0 .came) [
       | then-a-eq0·by·then-a-eq0 w ↦ sym (permits-zero rows a b (omega arith))
       | then-a-eq0·by·else-a-eq0·then-a-rows w ↦ sym (permits-past rows a b (omega arith))
     ]
 
 pub returns : need.returns
-returns c = c .has-form .ensures ∙ sym (permits-at (c .args .rows .now) (c .args .a) (c .args .b) (omega arith))
+returns c = c .has-form .ensures ∙ sym (permits-at (c .args .rows .now) (c .args .pair .0) (c .args .pair .1) (omega arith))

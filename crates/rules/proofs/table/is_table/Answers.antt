@@ -1,9 +1,9 @@
-use mathlib.Core.Path.{refl, _∙_, ap}
-use mathlib.Core.Logic.{⊎-elim}
-use Prim.Native.Nat.{ℕ, _-_, _/_, _^_, _<_}
+use mathlib.Core.Path.{refl, sym, _∙_, ap}
+use Prim.Native.Nat.{_-_, _/_, _^_}
 use native.Mathlib.Nat.{div-eq-of-lt}
 use native.Mathlib.Omega.{arith}
-use Rattle.std.proofs.shelf.Tests.{false≢true}
+use lib.ListN.{length}
+use Rattle.std.proofs.shelf.Tests.{false≢true, eqb-false}
 use Rattle.rules.proofs.Rows.{permits-first, permits-second, table-row}
 use Rattle.rules.proofs.table.is_table.Needs as need
 
@@ -17,7 +17,7 @@ returns-then-past-ne0 c = (
 pub returns : need.returns
 returns c = (
   λ _. record {
-    height = (omega arith, omega arith);
+    height = (omega (arith, eqb-false (length (c .args .rows .now)) 0 (sym (c .is-empty .ensures) ∙ c .if-is-empty .left)), omega arith);
     width = (omega arith, omega arith);
     inside = λ a b h. let first = permits-first (c .args .rows .now) a b h in
         permits-second (c .args .rows .now) a b (c .args .size) (c .loop-row .inv (a - 1) (omega arith)) h .1;

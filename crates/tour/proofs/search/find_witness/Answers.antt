@@ -1,6 +1,6 @@
 use native.Mathlib.Omega.{arith}
 use Rattle.rules.specs.Tables.{permits}
-use Rattle.rules.specs.Closing.{Closed-after-one}
+use Rattle.rules.specs.Partial.{Closed-after-one}
 use Rattle.rules.proofs.Pairs.{rows-more, all-pairs}
 use Rattle.tour.proofs.search.find_witness.Needs as need
 
@@ -10,4 +10,4 @@ loop-a-again g c =
 
 pub returns : need.returns
 returns g c =
-    all-pairs (c .args .rows .now) (Closed-after-one (g .R·Rule .voted) (permits (c .args .rows .now))) (λ k. omega (arith, c .typed .rows k)) (c .pre) (λ a h. c .loop-a .inv a (omega arith))
+    all-pairs (c .args .rows .now) (Closed-after-one (g .R·Rule .voted) (permits (c .args .rows .now))) (c .pre) (λ a h. c .loop-a .inv a (omega arith))

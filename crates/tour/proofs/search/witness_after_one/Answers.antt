@@ -1,6 +1,6 @@
 use native.Mathlib.Omega.{arith}
 use Rattle.rules.specs.Tables.{permits}
-use Rattle.rules.specs.Closing.{Closed-after-two}
+use Rattle.rules.specs.Partial.{Closed-after-two}
 use Rattle.rules.proofs.Pairs.{rows-more, all-pairs}
 use Rattle.tour.proofs.search.witness_after_one.Needs as need
 
@@ -10,4 +10,4 @@ loop-c-again g c =
 
 pub returns : need.returns
 returns g c =
-    all-pairs (c .args .rows .now) (Closed-after-two (g .R·Rule .voted) (permits (c .args .rows .now)) (c .args .one .0) (c .args .one .1)) (λ k. omega (arith, c .typed .rows k)) (c .pre .few) (λ a h. c .loop-c .inv a (omega arith))
+    all-pairs (c .args .rows .now) (Closed-after-two (g .R·Rule .voted) (permits (c .args .rows .now)) (c .args .one .0) (c .args .one .1)) (c .pre .bounded) (λ a h. c .loop-c .inv a (omega arith))
