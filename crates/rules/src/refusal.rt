@@ -4,7 +4,7 @@ ghost use Rattle.rules.specs.Refusals.{refusal-number, returned-number};
 // Why a call of the product was refused. A case keeps its number for good; 0 is left for a call that was done.
 #[derive(Clone, Copy, PartialEq, Eq, Debug)]
 pub enum Refusal {
-    // More labels than a panel has, a size that no label has, or more tables than a sheet has.
+    // More labels than a panel can have, a size that no label can have, or more tables than a sheet can have.
     OutsideLimits = 1,
     // A label that the panel lacks, or two labels of which the first is not the lower.
     NoLabel = 2,
@@ -29,7 +29,7 @@ pub enum Refusal {
     NotHeld = 11,
     // The bytes are laid out as no sheet is.
     NoSheet = 12,
-    // The sheet is for another rule than the book, or a head to be written has a rule number outside 1 to 999.
+    // The sheet is not for the book's rule, or a head to be written has a rule number outside 1 to 999.
     WrongRule = 13,
 }
 
