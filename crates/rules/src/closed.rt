@@ -11,7 +11,7 @@ use crate::table::has_pair;
 
 // Whether three pairs vote for a pair of the rows.
 fn votes_in<R: Rule>(rows: &[u16], one: Pair, two: Pair, three: Pair) -> bool
-    ensures { result ≡ permits rows.now (voted one.0 two.0 three.0) (voted one.1 two.1 three.1) }
+    ensures { result ≡ permits rows.now (R.voted one.0 two.0 three.0) (R.voted one.1 two.1 three.1) }
 {
     has_pair(rows, voted_pair::<R>(one, two, three))
 }
@@ -19,7 +19,7 @@ fn votes_in<R: Rule>(rows: &[u16], one: Pair, two: Pair, three: Pair) -> bool
 // Closed as far as the first two pairs are these.
 fn closed_after_two<R: Rule>(rows: &[u16], one: Pair, two: Pair) -> bool
     requires { Bounded rows.now }
-    ensures { Decides result (ClosedAfterTwo voted (permits rows.now) one.0 one.1 two.0 two.1) }
+    ensures { Decides result (ClosedAfterTwo R.voted (permits rows.now) one.0 one.1 two.0 two.1) }
 {
     for e in 1..=MAX_FORMS {
         for f in 1..=MAX_FORMS {
@@ -34,7 +34,7 @@ fn closed_after_two<R: Rule>(rows: &[u16], one: Pair, two: Pair) -> bool
 // Closed as far as the first pair is this one.
 fn closed_after_one<R: Rule>(rows: &[u16], one: Pair) -> bool
     requires { Bounded rows.now }
-    ensures { Decides result (ClosedAfterOne voted (permits rows.now) one.0 one.1) }
+    ensures { Decides result (ClosedAfterOne R.voted (permits rows.now) one.0 one.1) }
 {
     for c in 1..=MAX_FORMS {
         for d in 1..=MAX_FORMS {
@@ -48,7 +48,7 @@ fn closed_after_one<R: Rule>(rows: &[u16], one: Pair) -> bool
 
 pub(crate) fn closed<R: Rule>(rows: &[u16]) -> bool
     requires { Bounded rows.now }
-    ensures { Decides result (Closed voted (permits rows.now)) }
+    ensures { Decides result (Closed R.voted (permits rows.now)) }
 {
     for a in 1..=MAX_FORMS {
         for b in 1..=MAX_FORMS {

@@ -1,4 +1,6 @@
 // Rules and their votes, tables and the test of closure, with the limits and refusals of the whole product.
+#![tactic(auto)]
+
 mod closed;
 pub mod limits;
 mod pair;

@@ -8,8 +8,8 @@ pub struct Pair(pub u8, pub u8);
 
 // The pair that three pairs vote for: the vote of their first forms, and of their second.
 pub fn voted_pair<R: Rule>(one: Pair, two: Pair, three: Pair) -> Pair
-    ensures first { result.0 ≡ voted one.0 two.0 three.0 }
-    ensures second { result.1 ≡ voted one.1 two.1 three.1 }
+    ensures first { result.0 ≡ R.voted one.0 two.0 three.0 }
+    ensures second { result.1 ≡ R.voted one.1 two.1 three.1 }
 {
     Pair(
         R::vote(one.0, two.0, three.0),

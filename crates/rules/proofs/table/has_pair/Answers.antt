@@ -14,4 +14,4 @@ returns-then-a-eq0 c =
     ]
 
 pub returns : goal.returns
-returns c = c.has-form.ensures ∙ sym (permits_at c.args.rows.now c.args.pair.0 c.args.pair.1 (omega arith))
+returns c = c.has_form.ensures ∙ sym (permits_at c.args.rows.now c.args.pair.0 c.args.pair.1 (omega arith))
