@@ -1,3 +1,2 @@
 pub mod Drawing
 pub mod Judging
-pub mod Walking

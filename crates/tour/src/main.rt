@@ -1,17 +1,15 @@
-// A tour of the fitter. A maker brings rows for two labels; each is drawn and judged under both rules. Then the same steps
-// are taken with both books.
+// A tour of the fitter. A maker brings rows for two labels; each is drawn and judged under both rules.
+#![tactic(auto)]
+
 mod grid;
 mod judging;
 mod row_list;
 mod sample;
 mod saying;
 mod search;
-mod step;
 mod verdict;
-mod walking;
 mod witness;
 
-use books::{Book, CompactBook, FullBook};
 use grid::Grid;
 use judging::judge;
 use row_list::RowList;
@@ -19,8 +17,6 @@ use rules::{Greatest, Middle, Refusal, Rule, Tested, limits};
 use sample::{SAMPLES, Sample};
 use saying::Saying;
 use std::io;
-use step::STEPS;
-use walking::walk;
 
 fn introduce(rt: &impl Print) -> io::Result<()> {
     let most = limits::in_force();
@@ -63,32 +59,10 @@ fn visit(rt: &impl Print, place: usize, sample: Sample) -> io::Result<()> {
     judge_by::<Middle>(rt, sample)
 }
 
-fn visit_books(rt: &impl Print) -> io::Result<()> {
-    let not_held = Refusal::NotHeld.number();
-    let rule = CompactBook::rule_number();
-    println!(rt;
-        "\nA book keeps a panel: its labels, which forms are live, and which pairs are permitted."
-    )?;
-    println!(rt;
-        "The full book holds every table. The compact book keeps two numbers a row, and refuses with"
-    )?;
-    println!(rt;
-        "{not_held} a table that they cannot tell. Here both serve rule {rule}; 0 stands for done."
-    )?;
-    let mut full = FullBook::<Greatest>::new();
-    let mut compact = CompactBook::new();
-    for step in STEPS {
-        let one = walk(&mut full, step);
-        let two = walk(&mut compact, step);
-        println!(rt; "   {step}: full {one}, compact {two}")?;
-    }
-    Ok(())
-}
-
 fn main(rt: HostRuntime) -> io::Result<()> {
     introduce(&rt)?;
     for (k, sample) in SAMPLES.iter().enumerate() {
         visit(&rt, k + 1, *sample)?;
     }
-    visit_books(&rt)
+    Ok(())
 }

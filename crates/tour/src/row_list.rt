@@ -5,25 +5,19 @@ use std::fmt;
 #[derive(Clone, Copy)]
 pub struct RowList<'a>(pub &'a [u16]);
 
-// The forms of one row, as in `1,2`.
-#[derive(Clone, Copy)]
-pub struct FormList(pub u16);
-
-impl fmt::Display for FormList {
-    fn fmt<W: fmt::Write>(&self, f: &mut fmt::Formatter<W>) -> fmt::Result {
-        if self.0 == 0 {
-            return write!(f, "-");
-        }
-        let mut some = false;
-        for b in 1..=ROW_BITS {
-            if has_form(self.0, b) {
-                let comma = if some { "," } else { "" };
-                write!(f, "{comma}{b}")?;
-                some = true;
-            }
-        }
-        Ok(())
+fn write_forms<W: fmt::Write>(row: u16, f: &mut fmt::Formatter<W>) -> fmt::Result {
+    if row == 0 {
+        return write!(f, "-");
     }
+    let mut some = false;
+    for b in 1..=ROW_BITS {
+        if has_form(row, b) {
+            let comma = if some { "," } else { "" };
+            write!(f, "{comma}{b}")?;
+            some = true;
+        }
+    }
+    Ok(())
 }
 
 impl fmt::Display for RowList<'_> {
@@ -35,7 +29,7 @@ impl fmt::Display for RowList<'_> {
             if k > 0 {
                 write!(f, " | ")?;
             }
-            write!(f, "{}", FormList(*row))?;
+            write_forms(*row, f)?;
         }
         Ok(())
     }

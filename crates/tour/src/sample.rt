@@ -7,20 +7,11 @@ pub struct Sample {
     pub size: u8,
 }
 
-// Two samples that the books are narrowed to: each form of the first has a partner, form 3 of the second label of the
-// other has none.
-pub const WITH_PARTNERS: Sample = Sample {
-    rows: &[0b0100, 0b1000, 0b1001, 0b1110],
-    size: 4,
-};
-
-pub const WITHOUT_PARTNER: Sample = Sample {
-    rows: &[0b1011, 0b1000],
-    size: 4,
-};
-
 pub const SAMPLES: [Sample; 9] = [
-    WITH_PARTNERS,
+    Sample {
+        rows: &[0b0100, 0b1000, 0b1001, 0b1110],
+        size: 4,
+    },
     Sample {
         rows: &[0b011, 0b100],
         size: 3,
@@ -33,7 +24,10 @@ pub const SAMPLES: [Sample; 9] = [
         rows: &[0b001, 0b010, 0b100],
         size: 3,
     },
-    WITHOUT_PARTNER,
+    Sample {
+        rows: &[0b1011, 0b1000],
+        size: 4,
+    },
     Sample {
         rows: &[0, 0, 0],
         size: 3,

@@ -14,7 +14,7 @@ fn witness_after_two<R: Rule>(rows: &[u16], one: Pair, two: Pair) -> Option<Witn
     requires bounded { Bounded rows.now }
     requires one { Has (permits rows.now) one }
     requires two { Has (permits rows.now) two }
-    ensures { MatchOption result (ClosedAfterTwo voted (permits rows.now) one.0 one.1 two.0 two.1) (Breaks voted (permits rows.now)) }
+    ensures { MatchOption result (ClosedAfterTwo R.voted (permits rows.now) one.0 one.1 two.0 two.1) (Breaks R.voted (permits rows.now)) }
 {
     for e in 1..=MAX_FORMS {
         for f in 1..=MAX_FORMS {
@@ -37,7 +37,7 @@ fn witness_after_two<R: Rule>(rows: &[u16], one: Pair, two: Pair) -> Option<Witn
 fn witness_after_one<R: Rule>(rows: &[u16], one: Pair) -> Option<Witness>
     requires bounded { Bounded rows.now }
     requires one { Has (permits rows.now) one }
-    ensures { MatchOption result (ClosedAfterOne voted (permits rows.now) one.0 one.1) (Breaks voted (permits rows.now)) }
+    ensures { MatchOption result (ClosedAfterOne R.voted (permits rows.now) one.0 one.1) (Breaks R.voted (permits rows.now)) }
 {
     for c in 1..=MAX_FORMS {
         for d in 1..=MAX_FORMS {
@@ -54,7 +54,7 @@ fn witness_after_one<R: Rule>(rows: &[u16], one: Pair) -> Option<Witness>
 // Looks for a witness against the table: there is one unless it is closed.
 pub(crate) fn find_witness<R: Rule>(rows: &[u16]) -> Option<Witness>
     requires { Bounded rows.now }
-    ensures { MatchOption result (Closed voted (permits rows.now)) (Breaks voted (permits rows.now)) }
+    ensures { MatchOption result (Closed R.voted (permits rows.now)) (Breaks R.voted (permits rows.now)) }
 {
     for a in 1..=MAX_FORMS {
         for b in 1..=MAX_FORMS {

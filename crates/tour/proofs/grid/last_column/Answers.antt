@@ -3,7 +3,7 @@ use Rattle.rules.specs.Tables.{in_row}
 use Rattle.rules.proofs.Truth.{passes, fails}
 use Rattle.rules.proofs.Rows.{in_row_within, permits_row, permits_first, row_permits}
 use Rattle.tour.proofs.grid.last_column.Goals as goal
-use Rattle.tour.proofs.grid.last_column.Goals.{then-has-form, else-has-form}
+use Rattle.tour.proofs.grid.last_column.Goals.{then-has_form, else-has_form}
 
 -- the last column only grows, so the rows before keep their place
 pub loop-row-preserved : goal.loop-row-preserved
@@ -15,7 +15,7 @@ loop-row-preserved c =
       omega arith,
       below_more (λ k. (b : ℕ) → T (in_row (get_or rows k 0) b) → b ≤ last) c.loop-row.row-index
           (λ k h b t. omega (arith, before.1 k h b t))
-          (λ b t. here.1 b (omega (arith, (in_row_within _ b 16 (omega (arith, c.type-inv.rows c.loop-row.row-index)) t).1)) t),
+          (λ b t. here.1 b (omega (arith, (in_row_within _ b 16 (omega (arith, c.type_inv.rows c.loop-row.row-index)) t).1)) t),
       here.2,
     )
 
@@ -25,18 +25,18 @@ loop-b-preserved c =
     let k = c.loop-row.row-index in
     let b = c.loop-b.b in
     let inv = c.loop-b.invariant in
-    let last = c.if-has-form.last in
+    let last = c.if-has_form.last in
     let P : ℕ → Type 0 = λ d. T (in_row (get_or rows k 0) d) → d ≤ last in
-    elim c.if-has-form.branch [
-      | then-has-form w ↦
-          let here = row_permits rows k b (passes _ (sym c.has-form.ensures ∙ w.if-has-form.true)) in (
+    elim c.if-has_form.branch [
+      | then-has_form w ↦
+          let here = row_permits rows k b (passes _ (sym c.has_form.ensures ∙ w.if-has_form.true)) in (
             omega arith,
             below_more P b (λ d h t. omega (arith, inv.1 d h t)) (λ t. omega arith),
             λ n room. omega (arith, inv.2 n room, room.pairs (k + 1) b here),
           )
-      | else-has-form w ↦ (
+      | else-has_form w ↦ (
         omega arith,
-        below_more P b (λ d h t. omega (arith, inv.1 d h t)) (λ t. absurd (fails _ (sym c.has-form.ensures ∙ w.if-has-form.false) t)),
+        below_more P b (λ d h t. omega (arith, inv.1 d h t)) (λ t. absurd (fails _ (sym c.has_form.ensures ∙ w.if-has_form.false) t)),
         λ n room. omega (arith, inv.2 n room),
       )
     ]
