@@ -13,7 +13,7 @@ use rules::limits::MAX_FORMS;
 // The partners of form `a` of label `i` in label `j`, where `i` does not come after `j`.
 pub(crate) fn forward<S: Rows>(frame: &Frame, rows: &S, i: u8, a: u8, j: u8) -> u16
     requires { i ≤ j }
-    ensures { (b : ℕ) → in_row result b ≡ (book_view frame.now (cell rows.now)).permitted i a j b }
+    ensures { (b : ℕ) → in_row result b ≡ (book_view frame.now (S.cell rows.now)).permitted i a j b }
 {
     if !frame.live(i, a) {
         return 0;
@@ -28,7 +28,7 @@ pub(crate) fn forward<S: Rows>(frame: &Frame, rows: &S, i: u8, a: u8, j: u8) -> 
 }
 
 pub(crate) fn permitted<S: Rows>(frame: &Frame, rows: &S, i: u8, a: u8, j: u8, b: u8) -> bool
-    ensures { result ≡ (book_view frame.now (cell rows.now)).permitted i a j b }
+    ensures { result ≡ (book_view frame.now (S.cell rows.now)).permitted i a j b }
 {
     if i <= j {
         has_form(forward(frame, rows, i, a, j), b)
@@ -38,7 +38,7 @@ pub(crate) fn permitted<S: Rows>(frame: &Frame, rows: &S, i: u8, a: u8, j: u8, b
 }
 
 pub(crate) fn partners<S: Rows>(frame: &Frame, rows: &S, i: u8, a: u8, j: u8) -> u16
-    ensures { (b : ℕ) → in_row result b ≡ (book_view frame.now (cell rows.now)).permitted i a j b }
+    ensures { (b : ℕ) → in_row result b ≡ (book_view frame.now (S.cell rows.now)).permitted i a j b }
 {
     if i <= j {
         return forward(frame, rows, i, a, j);

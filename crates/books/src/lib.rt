@@ -1,4 +1,6 @@
 // Books: stores for the forms and pairs of a panel.
+#![tactic(auto)]
+
 mod asking;
 mod book;
 mod compact;

@@ -25,7 +25,7 @@ returns c =
           (λ missing. absurd (both_ways (in_row more b) (ap (λ n. in_row n b) zero ∙ in_row_none b)
           (c.without.ensures b ∙ and_from (in_row read b) (not (in_row row b)) (c.among.ensures b ∙ and_from (in_row live b) (reads f s b) (is_true _ m) (is_true _ r)) (ap not missing))))
           (cases_Bool (in_row row b)))),
-      (λ tailed. eq-eqb more 0 (row_none more (omega (arith, c.without.type-inv)) (λ b t.
+      (λ tailed. eq-eqb more 0 (row_none more (omega (arith, c.without.type_inv)) (λ b t.
           let p = and_parts (in_row read b) (not (in_row row b)) (sym (c.without.ensures b) ∙ is_true _ t) in
           let q = and_parts (in_row live b) (reads f s b) (sym (c.among.ensures b) ∙ p.0) in
           both_ways (in_row row b) (not-true _ p.1) (is_true _ (read_only (in_row live) (in_row row) forms f s c.of.ensures tailed b (passes _ q.0) (passes _ q.1)))))),

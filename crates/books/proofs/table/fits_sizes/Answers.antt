@@ -9,16 +9,16 @@ use Rattle.books.proofs.table.fits_sizes.Goals.{then-k-height, else-k-height}
 abbrev Columns : ℕ → ℕ → ℕ → ℕ → Type 0
 Columns k height width columns = ((k < height) × (columns ≡ width)) ⊎ ((height ≤ k) × (columns ≡ 0))
 
-pub ends-at-requires : goal.ends-at-requires
-ends-at-requires c = elim c.if-k-height.branch [ then-k-height w ↦ omega (arith, w.columns-is, c.requires) | else-k-height w ↦ omega (arith, w.columns-is) ]
+pub ends_at-requires : goal.ends_at-requires
+ends_at-requires c = elim c.if-k-height.branch [ then-k-height w ↦ omega (arith, w.columns-is, c.requires) | else-k-height w ↦ omega (arith, w.columns-is) ]
 
-pub returns-then-not-ends-at : goal.returns-then-not-ends-at
-returns-then-not-ends-at c =
+pub returns-then-not-ends_at : goal.returns-then-not-ends_at
+returns-then-not-ends_at c =
     let k = c.loop-k.k in
     let columns : Columns k c.args.height c.args.width c.if-k-height.columns =
     elim c.if-k-height.branch [ then-k-height w ↦ inl (w.if-k-height.true, w.columns-is) | else-k-height w ↦ inr (w.if-k-height.false, w.columns-is) ] in (
       (λ e. absurd (false≢true e)),
-      (λ fits. c.if-not-ends-at.ensures.1 (λ b t.
+      (λ fits. c.if-not-ends_at.ensures.1 (λ b t.
           let p = fits (k + 1) b (row_permits c.args.rows.now k b t) in
           ⊎_elim (λ here. omega (arith, here.1, p.1)) (λ past. absurd (omega (arith, past.0, p.0))) columns)),
     )
@@ -30,7 +30,7 @@ loop-k-preserved c =
     elim c.if-k-height.branch [ then-k-height w ↦ inl (w.if-k-height.true, w.columns-is) | else-k-height w ↦ inr (w.if-k-height.false, w.columns-is) ] in
     below_more (λ m. (b : ℕ) → T (in_row (get_or c.args.rows.now m 0) b) → (m < c.args.height) × (b ≤ c.args.width)) k c.loop-k.invariant
     (λ b t.
-    let near = c.if-not-ends-at.ensures.0 refl b t in
+    let near = c.if-not-ends_at.ensures.0 refl b t in
     ⊎_elim (λ here. (here.0, omega (arith, here.1, near))) (λ past. absurd (omega (arith, past.1, near, in_row_first _ b t))) columns)
 
 pub returns : goal.returns

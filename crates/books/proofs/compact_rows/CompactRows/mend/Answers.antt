@@ -1,4 +1,4 @@
-use Rattle.std.proofs.Common.{◌≡◌, ◌+◌, ◌-◌, ◌<◌, ◌&&◌, eqb, ◌≢◌, ◌⊎◌, length, get_or, set, sym, refl, ap, ◌∙◌, inl, inr, ⊎_elim, arith, get_or-set_other, get_or-set_same, below_more}
+use Rattle.std.proofs.Common.{◌≡◌, ◌+◌, ◌-◌, ◌<◌, ◌&&◌, eqb, ◌≢◌, length, get_or, set, sym, refl, ap, ◌∙◌, inl, inr, ⊎_elim, arith, get_or-set_other, get_or-set_same, below_more}
 use Rattle.std.proofs.lemmas.Bool.{and_parts, and_from, eqb-true, eq-eqb}
 use Rattle.rules.specs.Tables.{in_row}
 use Rattle.rules.proofs.Truth.{is_true, passes}
@@ -16,11 +16,11 @@ loop-k-preserved c =
     let i = c.args.i in
     let j = c.args.j in
     let k = c.loop-k.k in
-    let at = c.table-at-at.result in
+    let at = c.table_at-at.result in
     let row = c.of.result in
-    let here : row_at i j (k + 1) ≡ at + k = let back : k + 1 - 1 ≡ k = omega arith in ap (λ n. n + (k + 1 - 1)) (sym c.table-at-at.ensures.place) ∙ ap (λ n. at + n) back in
+    let here : row_at i j (k + 1) ≡ at + k = let back : k + 1 - 1 ≡ k = omega arith in ap (λ n. n + (k + 1 - 1)) (sym c.table_at-at.ensures.place) ∙ ap (λ n. at + n) back in
     let old : compact_row cur (row_at i j (k + 1)) ≡ compact_row s (row_at i j (k + 1)) = c.loop-k.invariant.1 (row_at i j (k + 1)) (inr (omega (arith, here))) in
-    let inside : at + k < length cur.rows = omega (arith, c.table-at-at.ensures.room, cur.whole) in
+    let inside : at + k < length cur.rows = omega (arith, c.table_at-at.ensures.room, cur.whole) in
     let after = set cur.rows (at + k) row in (
       below_more (λ m. KeptIn (λ b. (book_view f (pairs s)).permitted i (m + 1) j b && in_row (get_or c.args.given.now m 0) b) (get_or after (at + m) empty_row)) k
           (λ m l. kept_as _ _ (compact_row cur (at + m)) (get_or after (at + m) empty_row) (λ b. refl)
@@ -40,8 +40,8 @@ returns c p q x o w =
     let s = c.args.self.now in
     let i = c.args.i in
     let j = c.args.j in
-    let at = c.table-at-at.result in
-    let place = c.table-at-at.ensures.place in
+    let at = c.table_at-at.result in
+    let place = c.table_at-at.ensures.place in
     let back : x - 1 + 1 ≡ x = omega (arith, w.0) in
     let short : x - 1 < c.loop-k.k = omega (arith, w.1) in (
       (λ h.

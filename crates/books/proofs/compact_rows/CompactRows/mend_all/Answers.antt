@@ -14,7 +14,7 @@ pub loop-j-preserved : goal.loop-j-preserved
 loop-j-preserved c =
     let f = c.args.frame.now in
     let j = c.loop-j.j in
-    mending_as f uncut c.args.self.now c.mend-before.new.self _ _ (λ p q o. more j q)
-    (mending_join f uncut c.args.self.now c.loop-j.self c.mend-before.new.self (λ p q. ltb q j) (λ p q. eqb q j)
+    mending_as f uncut c.args.self.now c.mend_before.new.self _ _ (λ p q o. more j q)
+    (mending_join f uncut c.args.self.now c.loop-j.self c.mend_before.new.self (λ p q. ltb q j) (λ p q. eqb q j)
     (λ p q o d e. let l = ltb-true q j (is_true _ d) in let s = eqb-true q j (is_true _ e) in omega arith)
-    c.loop-j.invariant c.mend-before.ensures)
+    c.loop-j.invariant c.mend_before.ensures)

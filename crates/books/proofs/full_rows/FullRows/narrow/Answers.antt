@@ -1,1 +1,0 @@
-use Rattle.books.proofs.full_rows.FullRows.narrow.Goals as goal
