@@ -13,7 +13,7 @@ pub trait Book: Sized {
     // The rule that the book serves, with its number, vote and test.
     type R: Tested;
 
-    // The number of the rule, for code that wants a constant. No law or contract can name it.
+    // The number of the rule, for code that wants a constant. Contracts speak of what `rule_number` answers.
     const RULE: u16 = Self::R::NUMBER;
 
     // The panel as the book has it.

@@ -9,7 +9,7 @@ const FOUR: [u16; 16] = [
     0b0100, 0b1000, 0b1001, 0b1110, 0, 0, 0, 0, 0, 0, 0, 0, 0, 0, 0, 0,
 ];
 
-// No contract can name the constant of a trait, so a test compares it with what the function answers.
+// No contract names the constant of the trait, so a test compares it with what the function answers.
 #[test]
 fn numbers(rt: HostRuntime) {
     assert_eq!(rt; FullBook::<Greatest>::RULE, 1);

@@ -43,10 +43,10 @@ impl Refusal {
 }
 
 // The number that a call returns to a host: 0 where it was done, or that of its refusal.
-pub fn number_of<T>(res: &Result<T, Refusal>) -> u8
-    ensures { result ≡ returned_number res.now }
+pub fn number_of<T>(answer: &Result<T, Refusal>) -> u8
+    ensures { result ≡ returned_number answer.now }
 {
-    match res {
+    match answer {
         Ok(_) => 0,
         Err(refusal) => refusal.number(),
     }

@@ -4,7 +4,7 @@ ghost use Rattle.rules.specs.Votes.{Vote, Majority, Chosen, SameVote, greatest, 
 
 // A way to choose one of three forms: its vote.
 pub trait Rule {
-    // The number by which sheets name the rule, for code that wants a constant. No law or contract can name it.
+    // The number by which sheets name the rule, for code that wants a constant. Laws and contracts speak of `numbered`.
     const NUMBER: u16;
 
     // The number that the laws speak of.

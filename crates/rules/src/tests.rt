@@ -24,7 +24,7 @@ fn verdicts(rt: HostRuntime) {
     }
 }
 
-// No contract can name the constant of a trait, so a test compares it with what the function answers.
+// No contract names the constant of the trait, so a test compares it with what the function answers.
 #[test]
 fn numbers(rt: HostRuntime) {
     assert_eq!(rt; Greatest::NUMBER, Greatest::rule_number());
