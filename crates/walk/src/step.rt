@@ -75,7 +75,7 @@ impl fmt::Display for Answer {
     }
 }
 
-// What the tour does with both books.
+// What the walk does with both books.
 pub const STEPS: [Step; 26] = [
     Step::Labels,
     Step::Open(&[4, 4, 2, 4]),
