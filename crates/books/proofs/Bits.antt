@@ -46,8 +46,8 @@ pub in_row_none : (b : ℕ) → in_row 0 b ≡ false
 in_row_none b = ⊎_elim (λ h. in_row_zero 0 b (omega arith)) (λ h. in_row_past 0 b 0 (pow_pos 0) h) (cases_lt b 1)
 
 -- and there is no other
-pub row_none : (row : ℕ) → row < 2 ^ 16 → ((b : ℕ) → T (in_row row b) → ⊥) → row ≡ 0
-row_none row typed none = let low = row_below row 0 typed (λ b t. absurd (none b t)) in omega arith
+pub row_none : (row : ℕ) → ((b : ℕ) → T (in_row row b) → ⊥) → row ≡ 0
+row_none row none = let low = row_below row 0 (λ b t. absurd (none b t)) in omega arith
 
 even_pow : (d : ℕ) → 1 ≤ d → 2 ^ d % 2 ≡ 0
 even_pow d h =

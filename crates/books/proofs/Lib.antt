@@ -1,8 +1,9 @@
 pub mod Bits
-pub mod Partners
-pub mod Places
 pub mod FirstTwo
 pub mod Mended
 pub mod Uncut
 pub mod Struck
 pub mod Narrowed
+pub mod Partners
+pub mod Places
+pub mod Refused

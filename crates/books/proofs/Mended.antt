@@ -31,13 +31,13 @@ module _ (f : Frame) (given : List ℕ) where
   pub mending_none : (s : CompactRows) → Mending f given s s (λ p q. false)
   mending_none s p q x o w = ((λ t. absurd t), (λ _. refl))
 
-  pub mending_as : (s t : CompactRows) (d d' : ℕ → ℕ → Bool) → ((p q : ℕ) → Ordered f.labels p q → d p q ≡ d' p q) → Mending f given s t d → Mending f given s t d'
+  pub mending_as : (s t : CompactRows) (d d' : ℕ → ℕ → Bool) → ((p q : ℕ) → Ordered f.count p q → d p q ≡ d' p q) → Mending f given s t d → Mending f given s t d'
   mending_as s t d d' e m p q x o w =
       let both = m p q x o w in
       ((λ h. both.0 (subst T (sym (e p q o)) h)), (λ h. both.1 (λ k. h (subst T (e p q o) k))))
 
   -- one mending after another, of different tables
-  pub mending_join : (s m t : CompactRows) (d e : ℕ → ℕ → Bool) → ((p q : ℕ) → Ordered f.labels p q → T (d p q) → T (e p q) → ⊥)
+  pub mending_join : (s m t : CompactRows) (d e : ℕ → ℕ → Bool) → ((p q : ℕ) → Ordered f.count p q → T (d p q) → T (e p q) → ⊥)
       → Mending f given s m d → Mending f given m t e → Mending f given s t (λ p q. d p q || e p q)
   mending_join s m t d e apart one two p q x o w =
       let before = one p q x o w in
@@ -53,7 +53,7 @@ module _ (f : Frame) (given : List ℕ) where
       )
 
 -- a mended table, where each given row has every live form from its second on
-module _ (f : Frame) (given : List ℕ) (s t : CompactRows) (d : ℕ → ℕ → Bool) (mending : Mending f given s t d) (p q x : ℕ) (o : Ordered f.labels p q) (w : Within max_forms x) (done : T (d p q))
+module _ (f : Frame) (given : List ℕ) (s t : CompactRows) (d : ℕ → ℕ → Bool) (mending : Mending f given s t d) (p q x : ℕ) (o : Ordered f.count p q) (w : Within max_forms x) (done : T (d p q))
     (tailed : T (frame_live f p x) → Tailed (frame_live f q) (λ b. frame_live f q b && in_row (get_or given (x - 1) 0) b)) where
   abbrev Row : Forms
   Row = in_row (get_or given (x - 1) 0)

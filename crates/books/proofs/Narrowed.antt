@@ -11,7 +11,7 @@ use Rattle.books.specs.Frames.{frame_live, frame_cut, row_at}
 use Rattle.books.specs.Compact.{Tailed, Tails, reads, Exact, compact_row, pairs, is_pair, Mending}
 use Rattle.books.specs.Bools.{and_flip}
 use Rattle.books.specs.Labels.{live_form}
-use Rattle.books.specs.Linked.{Kept}
+use Rattle.books.specs.Stores.{Kept}
 use Rattle.books.proofs.FirstTwo.{tailed_as}
 use Rattle.books.proofs.Mended.{kept_as, row_permitted, mended_exact, mended_cell}
 
@@ -40,13 +40,13 @@ module _ (f : Frame) (i j : ℕ) (rows : List ℕ) (s t : CompactRows) (mending 
       kept_as _ _ (compact_row s (row_at p q x)) (compact_row t (row_at p q x)) (λ b. sym (row_permitted f s t p q x b o.1.0 row)) row (exact p q x o w))
       (cases_Bool (is_pair i j p q))
 
-  pub cells_here : Ordered f.labels i j → (x y : ℕ) → T (frame_live f i x) → T (frame_live f j y) → pairs t (row_at i j x) y ≡ (pairs s (row_at i j x) y && permits rows x y)
+  pub cells_here : Ordered f.count i j → (x y : ℕ) → T (frame_live f i x) → T (frame_live f j y) → pairs t (row_at i j x) y ≡ (pairs s (row_at i j x) y && permits rows x y)
   cells_here o x y lx ly =
       let done = passes _ (and_from (eqb i i) (eqb j j) (eq-eqb i i refl) (eq-eqb j j refl)) in
       mended_cell f rows s t (is_pair i j) mending i j x o (live_form f i x lx) done (rows_tailed i j x done) y lx ly
       ∙ ap (λ z. pairs s (row_at i j x) y && z) (sym (permits_at rows x y (live_form f i x lx).0))
 
-  pub cells_elsewhere : (p q : ℕ) → Ordered f.labels p q → ((p ≡ i) × (q ≡ j) → ⊥) → Kept f (pairs s) (pairs t) p q
+  pub cells_elsewhere : (p q : ℕ) → Ordered f.count p q → ((p ≡ i) × (q ≡ j) → ⊥) → Kept f (pairs s) (pairs t) p q
   cells_elsewhere p q o ne x y lx ly =
       ap (λ r. reads r.first r.second y) ((mending p q x o (live_form f p x lx)).1
       (λ d. let e = and_parts (eqb p i) (eqb q j) (is_true _ d) in ne (eqb-true p i e.0, eqb-true q j e.1)))

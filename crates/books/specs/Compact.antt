@@ -8,7 +8,7 @@ use Rattle.books.specs.declared.compact_row.CompactRow.{CompactRow}
 use Rattle.books.specs.declared.compact_rows.CompactRows.{CompactRows}
 use Rattle.books.specs.Views.{Forms}
 use Rattle.books.specs.Changes.{Ordered}
-use Rattle.books.specs.Frames.{book_view, row_at}
+use Rattle.books.specs.Frames.{book_view, frame_live, frame_cut, row_at}
 
 -- the number that stands for no form
 abbrev pub no_form : ℕ
@@ -21,6 +21,10 @@ Tailed M row = (p q b : ℕ) → T (row p) → T (row q) → p < q → q ≤ b �
 -- what the compact book can hold: a table with all its live rows so
 abbrev pub Tails : Forms → Forms → Table → Type 0
 Tails L M t = (a : ℕ) → T (L a) → Tailed M (t a)
+
+-- the row of form a of label i, cut to the live forms of label j, can be held
+abbrev pub RowHeld : Frame → ℕ → ℕ → List ℕ → ℕ → Type 0
+RowHeld f i j rows a = T (frame_live f i a) → Tailed (frame_live f j) (frame_cut f i j rows a)
 
 -- f is the first form of a row after another, or 17 where there is none
 pub record Next (row : Forms) (from f : ℕ) : Type 0 where
@@ -56,7 +60,7 @@ pairs s n = reads (compact_row s n).first (compact_row s n).second
 -- the stored numbers are the first and the second form of label j that are permitted with form a of label i: so 17 and 17
 -- where there is none, as for a form a that is not live
 abbrev pub Exact : Frame → CompactRows → Type 0
-Exact f s = (i j a : ℕ) → Ordered f.labels i j → Within max_forms a
+Exact f s = (i j a : ℕ) → Ordered f.count i j → Within max_forms a
     → KeptIn ((book_view f (pairs s)).permitted i a j) (compact_row s (row_at i j a))
 
 -- sixteen rows with every form: they cut nothing off
@@ -70,6 +74,6 @@ is_pair i j p q = p == i && q == j
 -- what mending does to the rows: where a table is mended, the row of each form keeps, of what was permitted before, the
 -- first two forms that the given row has too; where it is not, the row stays
 abbrev pub Mending : Frame → List ℕ → CompactRows → CompactRows → (ℕ → ℕ → Bool) → Type 0
-Mending f given s t mended = (p q x : ℕ) → Ordered f.labels p q → Within max_forms x
+Mending f given s t mended = (p q x : ℕ) → Ordered f.count p q → Within max_forms x
     → (T (mended p q) → KeptIn (λ b. (book_view f (pairs s)).permitted p x q b && in_row (slice_index given (x - 1)) b) (compact_row t (row_at p q x)))
     × ((T (mended p q) → ⊥) → compact_row t (row_at p q x) ≡ compact_row s (row_at p q x))

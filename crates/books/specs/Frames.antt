@@ -1,22 +1,30 @@
 -- The labels of a book with their sizes and live forms, and the view of a book whose rows stand by place. The two books of
 -- this crate are defined by it; no contract of the interface cites this file.
-use Rattle.std.specs.Prelude.{◌≡◌, ℕ, ◌+◌, ◌-◌, ◌*◌, ◌/◌, ◌<◌, Bool, cond, not, ◌&&◌, T, List, length, ◌==◌, nat_le, nat_lt, slice_index}
+use Rattle.std.specs.Prelude.{◌≡◌, ℕ, ◌+◌, ◌-◌, ◌*◌, ◌/◌, ◌<◌, Bool, cond, not, ◌&&◌, T, List, length, ◌==◌, nat_le, nat_lt, slice_index, slice_index_or, MatchResult, Result}
 use Rattle.rules.specs.Limits.{Within}
 use Rattle.rules.specs.Tables.{Table, in_row, permits}
+use Rattle.rules.specs.declared.refusal.Refusal.{Refusal}
+use Rattle.rules.specs.declared.refusal.Refusal.TheVariants.{OutsideLimits}
 use Rattle.books.specs.declared.frame.Frame.{Frame}
+use Rattle.books.specs.declared.label.Label.{Label}
+use Rattle.books.specs.Sizing.{no_label}
 use Rattle.books.specs.Views.{View, Forms}
 use Rattle.books.specs.Holding.{cut}
-use Rattle.books.specs.Changes.{is_form}
+use Rattle.books.specs.Changes.{Sizes, is_form}
 
 -- k is from 1 to n, as a test
 abbrev pub within : ℕ → ℕ → Bool
 within n k = nat_le 1 k && nat_le k n
 
+-- label i of a frame, where it has one
+abbrev pub label_at : Frame → ℕ → Label
+label_at f i = slice_index_or f.labels (i - 1) no_label
+
 unfoldable pub frame_size : Frame → ℕ → ℕ
-frame_size f i = cond (within f.labels i) (slice_index f.sizes (i - 1)) 0
+frame_size f i = cond (within f.count i) (label_at f i).size 0
 
 unfoldable pub frame_live : Frame → ℕ → Forms
-frame_live f i a = within f.labels i && in_row (slice_index f.live (i - 1)) a
+frame_live f i a = within f.count i && in_row (label_at f i).live a
 
 -- the pairs of the rows that are of live forms of labels i and j
 abbrev pub frame_cut : Frame → ℕ → ℕ → List ℕ → Table
@@ -24,13 +32,17 @@ frame_cut f i j rows = cut (frame_live f i) (frame_live f j) (permits rows)
 
 -- what an opening makes of the labels
 pub record FrameOpened (sizes : List ℕ) (f : Frame) : Type 0 where
-  pub labels : f.labels ≡ length sizes
+  pub labels : f.count ≡ length sizes
   pub size : (k : ℕ) → k < length sizes → frame_size f (k + 1) ≡ slice_index sizes k
   pub live : (i a : ℕ) → Within (frame_size f i) a → T (frame_live f i a)
 
--- what a strike makes of them
+-- a frame of these sizes, or the refusal where no panel can have them
+abbrev pub FrameFrom : List ℕ → Result Frame Refusal → Type 0
+FrameFrom sizes result = MatchResult result (λ f. Sizes sizes × FrameOpened sizes f) (λ e. (e ≡ OutsideLimits) × (Sizes sizes → ⊥))
+
+-- what a strike makes of the labels
 pub record FrameStruck (f : Frame) (i a : ℕ) (g : Frame) : Type 0 where
-  pub labels : g.labels ≡ f.labels
+  pub labels : g.count ≡ f.count
   pub size : (k : ℕ) → frame_size g k ≡ frame_size f k
   pub live : (k x : ℕ) → frame_live g k x ≡ (frame_live f k x && not (is_form i a k x))
 
@@ -53,7 +65,7 @@ linked cell i a j b = cond (i == j) (a == b) (cond (nat_lt i j) (cell (row_at i 
 -- the view of a book with these labels and rows
 abbrev pub book_view : Frame → (ℕ → ℕ → Bool) → View
 book_view f cell = record {
-  labels = f.labels;
+  labels = f.count;
   size = frame_size f;
   live = frame_live f;
   permitted = λ i a j b. (frame_live f i a && frame_live f j b) && linked cell i a j b;

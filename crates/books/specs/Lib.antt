@@ -2,7 +2,9 @@ pub mod Views
 pub mod Holding
 pub mod Changes
 pub mod Outcomes
+pub mod Sizing
 pub mod Frames
+pub mod Stores
 pub mod Full
 pub mod Compact
 pub mod Linked

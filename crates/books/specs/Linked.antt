@@ -5,9 +5,10 @@ use Rattle.std.proofs.lemmas.Bool.{eqb-true, eq-eqb, ne_eqb, lt-ltb, le-ltb, con
 use Rattle.std.proofs.lemmas.Bool.Decides.{nat_tests}
 use Rattle.books.specs.declared.frame.Frame.{Frame}
 use Rattle.books.specs.Views.{Orderly}
-use Rattle.rules.specs.Tables.{Table}
+use Rattle.rules.specs.Tables.{permits}
 use Rattle.books.specs.Changes.{Opened, Struck, Narrowed, Ordered}
 use Rattle.books.specs.Frames.{frame_live, linked, row_at, book_view, FrameOpened, FrameStruck}
+use Rattle.books.specs.Stores.{Whole, Kept, Unmoved, RowsNarrowed}
 use Rattle.books.specs.Bools.{and_assoc, and_flip, both_from, both_in, gate, left_from, still}
 use Rattle.books.specs.Labels.{size_out, size_range, live_size, live_label}
 
@@ -52,11 +53,7 @@ orderly f cell = record {
 
 -- rows before and after a change, that agree where both forms are live
 module _ (f : Frame) (before after : ℕ → ℕ → Bool) where
-  -- the rows of k < l have the same live forms as before
-  abbrev pub Kept : ℕ → ℕ → Type 0
-  Kept k l = (x y : ℕ) → T (frame_live f k x) → T (frame_live f l y) → after (row_at k l x) y ≡ before (row_at k l x) y
-
-  linked_same : (k x l y : ℕ) → (k < l → Kept k l) → (l < k → Kept l k) → T (frame_live f k x) → T (frame_live f l y) → linked after k x l y ≡ linked before k x l y
+  linked_same : (k x l y : ℕ) → (k < l → Kept f before after k l) → (l < k → Kept f before after l k) → T (frame_live f k x) → T (frame_live f l y) → linked after k x l y ≡ linked before k x l y
   linked_same k x l y up down lx ly =
       ⊎_elim (λ e. subst (λ z. linked after k x z y ≡ linked before k x z y) e (linked_one after k x y ∙ sym (linked_one before k x y)))
       (⊎_elim
@@ -66,8 +63,7 @@ module _ (f : Frame) (before after : ℕ → ℕ → Bool) where
 
 -- an opening: every row has every live form
 pub opened : (sizes : List ℕ) (f : Frame) (cell : ℕ → ℕ → Bool) → FrameOpened sizes f
-    → ((i j : ℕ) → Ordered f.labels i j → (a b : ℕ) → T (frame_live f i a) → T (frame_live f j b) → T (cell (row_at i j a) b))
-    → Opened sizes (book_view f cell)
+    → Whole f cell → Opened sizes (book_view f cell)
 opened sizes f cell o full = record {
   labels = o.labels;
   size = o.size;
@@ -83,7 +79,7 @@ opened sizes f cell o full = record {
 
 -- a strike: rows keep the forms that are still live
 pub struck : (f g : Frame) (i a : ℕ) (before after : ℕ → ℕ → Bool) → FrameStruck f i a g
-    → ((k l : ℕ) → Ordered g.labels k l → Kept g before after k l) → Struck (book_view f before) i a (book_view g after)
+    → Unmoved g before after → Struck (book_view f before) i a (book_view g after)
 struck f g i a before after s kept = record {
   labels = s.labels;
   size = s.size;
@@ -95,19 +91,17 @@ struck f g i a before after s kept = record {
 }
 
 -- a narrowing: the rows of i and j lose the forms that the table does not permit, all others stay
-pub narrowed : (f : Frame) (i j : ℕ) (t : Table) (before after : ℕ → ℕ → Bool) → Ordered f.labels i j
-    → ((x y : ℕ) → T (frame_live f i x) → T (frame_live f j y) → after (row_at i j x) y ≡ (before (row_at i j x) y && t x y))
-    → ((k l : ℕ) → Ordered f.labels k l → ((k ≡ i) × (l ≡ j) → ⊥) → Kept f before after k l)
-    → Narrowed (book_view f before) i j t (book_view f after)
-narrowed f i j t before after o inside kept = record {
+pub narrowed : (f : Frame) (i j : ℕ) (rows : List ℕ) (before after : ℕ → ℕ → Bool) → Ordered f.count i j
+    → RowsNarrowed f i j rows before after → Narrowed (book_view f before) i j (permits rows) (book_view f after)
+narrowed f i j rows before after o n = record {
   labels = refl;
   size = λ k. refl;
   live = λ k x. refl;
   here = λ x y. gate (frame_live f i x) (frame_live f j y) _ _ (λ lx ly.
-      linked_up after i x j y o.1.0 ∙ inside x y lx ly ∙ ap (λ c. c && t x y) (sym (linked_up before i x j y o.1.0)))
-      ∙ sym (and_assoc (frame_live f i x && frame_live f j y) (linked before i x j y) (t x y));
+      linked_up after i x j y o.1.0 ∙ n.inside x y lx ly ∙ ap (λ c. c && permits rows x y) (sym (linked_up before i x j y o.1.0)))
+      ∙ sym (and_assoc (frame_live f i x && frame_live f j y) (linked before i x j y) (permits rows x y));
   elsewhere = λ k x l y ne en. gate (frame_live f k x) (frame_live f l y) _ _ (λ lx ly.
       let wk = live_label f k x lx in
       let wl = live_label f l y ly in
-      linked_same f before after k x l y (λ h. kept k l (wk.0, (h, wl.1)) ne) (λ h. kept l k (wl.0, (h, wk.1)) (λ p. en (p.1, p.0))) lx ly);
+      linked_same f before after k x l y (λ h. n.outside k l (wk.0, (h, wl.1)) ne) (λ h. n.outside l k (wl.0, (h, wk.1)) (λ p. en (p.1, p.0))) lx ly);
 }

@@ -21,6 +21,11 @@ pub data Striking {B : Type 0} (view : B → View) (s : B) (i a : ℕ) (t : B) :
   strike_no_label : (Within (view s).labels i → ⊥) → t ≡ s → Striking view s i a t (Err NoLabel)
   strike_no_form : Within (view s).labels i → (Within ((view s).size i) a → ⊥) → t ≡ s → Striking view s i a t (Err NoForm)
 
+-- why a strike is refused, in a panel of so many labels and these sizes
+pub data StrikeRefused (labels : ℕ) (size : ℕ → ℕ) (i a : ℕ) : Refusal → Type 0 where
+  lacks_label : (Within labels i → ⊥) → StrikeRefused labels size i a NoLabel
+  lacks_form : Within labels i → (Within (size i) a → ⊥) → StrikeRefused labels size i a NoForm
+
 pub data Narrowing {B : Type 0} (view : B → View) (holds : Holds) (s : B) (i j : ℕ) (rows : List ℕ) (t : B) : Answer → Type 0 where
   narrow_done : Ordered (view s).labels i j → FitsSizes rows ((view s).size i) ((view s).size j) → Holdable holds (view s) i j rows
       → Narrowed (view s) i j (permits rows) (view t) → Narrowing view holds s i j rows t (Ok tt)

@@ -4,8 +4,8 @@ ghost use Rattle.books.specs.Views.{View, Orderly};
 ghost use Rattle.books.specs.Holding.{Holds, HoldsClosed, HoldsCommon, HoldsFewer};
 ghost use Rattle.books.specs.Outcomes.{Opening, Striking, Narrowing};
 
-use crate::forms::with_form;
-use rules::limits::MAX_FORMS;
+use crate::forms::forms_where;
+use crate::wording::Wording;
 use rules::{Refusal, Rule, Tested};
 
 // A store for the forms and pairs of a panel, with its meaning and the laws that it keeps.
@@ -13,21 +13,17 @@ pub trait Book: Sized {
     // The rule that the book serves, with its number, vote and test.
     type R: Tested;
 
-    // The number of the rule, for code that wants a constant. Contracts speak of what `rule_number` answers.
-    const RULE: u16 = Self::R::NUMBER;
+    // The number of the rule.
+    const RULE: u16;
+
+    // The same number, for laws and contracts: the checker refuses a book whose two differ.
+    ghost RULE: { ℕ };
 
     // The panel as the book has it.
     ghost view: { Self → View };
 
     // The tables that the book can hold. It is of the type, so it looks at live forms and the table alone.
     ghost holds: { Holds };
-
-    // The number that the laws of the rule speak of.
-    fn rule_number() -> u16
-        ensures { result ≡ Self.R.Rule.numbered }
-    {
-        Self::R::rule_number()
-    }
 
     // A book of no labels.
     fn new() -> Self
@@ -47,32 +43,28 @@ pub trait Book: Sized {
     fn size(&self, i: u8) -> u8
         ensures { result ≡ (view self.now).size i };
 
-    fn live(&self, i: u8, a: u8) -> bool
-        ensures { result ≡ (view self.now).live i a };
+    fn live(&self, w: Wording) -> bool
+        ensures { result ≡ (view self.now).live w.label w.form };
 
-    fn permitted(&self, i: u8, a: u8, j: u8, b: u8) -> bool
-        ensures { result ≡ (view self.now).permitted i a j b };
+    fn permitted(&self, one: Wording, two: Wording) -> bool
+        ensures { result ≡ (view self.now).permitted one.label one.form two.label two.form };
 
-    // The forms of label `j` that are permitted with form `a` of label `i`, as the bits of a row.
-    fn partners(&self, i: u8, a: u8, j: u8) -> u16
-        ensures { (b : ℕ) → in_row result b ≡ (view self.now).permitted i a j b }
+    // The forms of label `j` that are permitted with the wording, as the bits of a row.
+    fn partners(&self, w: Wording, j: u8) -> u16
+        ensures { (b : ℕ) → in_row result b ≡ (view self.now).permitted w.label w.form j b }
     {
-        let mut row = 0u16;
-        for b in 1..=MAX_FORMS {
-            if self.permitted(i, a, j, b) {
-                row = with_form(row, b);
-            }
-        }
-        row
+        forms_where(|form| self.permitted(w, Wording { label: j, form }))
     }
 
-    // Makes form `a` of label `i` not live.
-    fn strike(&mut self, i: u8, a: u8) -> Result<(), Refusal>
-        ensures { Striking view self.old i a self.new result };
+    // Makes a form not live.
+    fn strike(&mut self, w: Wording) -> Result<(), Refusal>
+        ensures { Striking view self.old w.label w.form self.new result };
 
     // Narrows the pairs of labels `i` and `j` to those that the rows permit too.
     fn narrow(&mut self, i: u8, j: u8, rows: [u16; 16]) -> Result<(), Refusal>
         ensures { Narrowing view holds self.old i j rows self.new result };
+
+    ghost serves: { RULE ≡ Self.R.Rule.NUMBER };
 
     ghost limits: { (s : Self) → Orderly (view s) };
 

@@ -1,27 +1,24 @@
 // A row taken into two numbers, and read back.
 ghost use Rattle.std.specs.Prelude.{◌≡◌, ℕ, ◌≤◌, ◌&&◌};
 ghost use Rattle.rules.specs.Tables.{in_row};
-ghost use Rattle.books.specs.Compact.{Next, FirstTwo, reads};
+ghost use Rattle.books.specs.Frames.{frame_live};
+ghost use Rattle.books.specs.Compact.{Next, FirstTwo, KeptIn, reads};
 
 use crate::compact_row::CompactRow;
-use crate::forms::{up_to, with_form, without};
+use crate::forms::{NO_FORM, both, up_to, with_form, without};
+use crate::frame::Frame;
+use crate::label_pair::LabelPair;
+use crate::wording::Wording;
 use rules::has_form;
-use rules::limits::MAX_FORMS;
-
-// The number that stands for no form.
-const NO_FORM: u8 = MAX_FORMS + 1;
 
 // The first form of the row after `from`, or 17.
 fn form_after(row: u16, from: u8) -> u8
     requires { from ≤ 17 }
     ensures { Next (in_row row) from result }
 {
-    for b in from + 1..=MAX_FORMS {
-        if has_form(row, b) {
-            return b;
-        }
-    }
-    NO_FORM
+    (from + 1..NO_FORM)
+        .find(|b| has_form(row, *b))
+        .unwrap_or(NO_FORM)
 }
 
 impl CompactRow {
@@ -43,5 +40,18 @@ impl CompactRow {
         } else {
             tail
         }
+    }
+    // The row of a form, mended: read over the live forms, cut to the given row, and kept as its two first forms.
+    pub(crate) fn mended(self, frame: &Frame, labels: LabelPair, form: u8, given: u16) -> CompactRow
+        ensures { KeptIn (λ b. ((frame_live frame.now labels.first form && frame_live frame.now labels.second b) && reads self.first self.second b) && in_row given b) result }
+    {
+        let wording = Wording {
+            label: labels.first,
+            form,
+        };
+        if !frame.live(wording) {
+            return CompactRow::of(0);
+        }
+        CompactRow::of(both(self.among(frame.forms(labels.second)), given))
     }
 }

@@ -1,16 +1,14 @@
-ghost use Rattle.std.specs.Prelude.{◌≡◌, ℕ, ◌<◌, ◌≤◌, T, length, slice_index};
-ghost use Rattle.rules.specs.Limits.{max_labels, max_forms, Within};
-ghost use Rattle.rules.specs.Tables.{in_row};
+ghost use Rattle.std.specs.Prelude.{ℕ, ◌<◌, ◌≤◌, slice_index_or};
+ghost use Rattle.rules.specs.Limits.{max_labels};
+ghost use Rattle.books.specs.Sizing.{no_label};
 
-// What every book keeps alike: the labels with their sizes and, as the bits of a row, the live forms of each.
+use crate::label::Label;
+
+// What every book keeps alike: its labels, and how many of the sixteen it has.
 #[derive(Drop)]
-pub(crate) struct Frame {
-    pub(crate) labels: u8,
-    pub(crate) sizes: [u8; 16],
-    pub(crate) live: [u16; 16],
-    ghost few: { labels ≤ max_labels },
-    ghost sized: { (k : ℕ) → k < labels → Within max_forms (slice_index sizes k) },
-    ghost living: { (k a : ℕ) → k < labels → T (in_row (slice_index live k) a) → a ≤ slice_index sizes k },
-    ghost allsizes: { length sizes ≡ 16 },
-    ghost alllive: { length live ≡ 16 },
+pub struct Frame {
+    pub(crate) count: u8,
+    pub(crate) labels: [Label; 16],
+    ghost few: { count ≤ max_labels },
+    ghost sized: { (k : ℕ) → k < count → 1 ≤ (slice_index_or labels k no_label).size },
 }

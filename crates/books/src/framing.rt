@@ -1,109 +1,171 @@
-// The calls of a frame.
-ghost use Rattle.std.specs.Prelude.{◌≡◌, ℕ, ◌&&◌, Decides};
-ghost use Rattle.rules.specs.Limits.{Within};
+// The calls of labels and of a frame.
+ghost use Rattle.std.specs.Prelude.{◌≡◌, ℕ, ◌+◌, ◌≤◌, ◌↔◌, not, ◌&&◌, ◌==◌, MatchOption, MatchResult, Decides, IsTrue, EachIndex, length, slice_index};
+ghost use Rattle.rules.specs.Limits.{Within, max_forms};
 ghost use Rattle.rules.specs.Tables.{in_row};
-ghost use Rattle.books.specs.Changes.{Sizes, Ordered};
-ghost use Rattle.books.specs.Frames.{frame_size, frame_live, FrameOpened, FrameStruck};
+ghost use Rattle.books.specs.Changes.{Ordered};
+ghost use Rattle.books.specs.Outcomes.{StrikeRefused};
+ghost use Rattle.books.specs.Frames.{within, frame_size, label_at, frame_live, FrameFrom, FrameStruck, table_at, row_at, all_rows};
 
 use crate::forms::{up_to, with_form, without};
 use crate::frame::Frame;
-use rules::has_form;
+use crate::label::Label;
+use crate::label_pair::LabelPair;
+use crate::wording::Wording;
 use rules::limits::{MAX_FORMS, MAX_LABELS};
+use rules::{Refusal, has_form};
 
-// Whether a panel can have these sizes.
-pub(crate) fn are_sizes(sizes: &[u8]) -> bool
-    ensures { Decides result (Sizes sizes.now) }
-{
-    if sizes.len() > MAX_LABELS as usize {
-        return false;
-    }
-    for size in sizes {
-        if *size == 0 || *size > MAX_FORMS {
-            return false;
+// The rows of all tables: sixteen for each two of sixteen labels.
+pub(crate) const ROWS: usize = 1920;
+
+impl Label {
+    // A label with all its forms live.
+    fn of(size: u8) -> Label
+        requires { size ≤ max_forms }
+        ensures size { result.size ≡ size }
+        ensures live { (a : ℕ) → in_row result.live a ≡ within size a }
+    {
+        Label {
+            size,
+            live: up_to(size),
         }
     }
-    true
+
+    // The label without one of its forms.
+    fn struck(self, form: u8) -> Label
+        requires { Within self.size form }
+        ensures size { result.size ≡ self.size }
+        ensures live { (a : ℕ) → in_row result.live a ≡ (in_row self.live a && not (a == form)) }
+    {
+        Label {
+            size: self.size,
+            live: without(self.live, with_form(0, form)),
+        }
+    }
+}
+
+impl LabelPair {
+    // Where the sixteen rows of the two labels begin. Tables stand in the order of their second label, then of their first.
+    pub(crate) fn table(self) -> usize
+        ensures place { result ≡ table_at self.first self.second }
+        ensures room { result + 16 ≤ all_rows }
+    {
+        let first = usize::from(self.first);
+        let second = usize::from(self.second);
+        ((second - 1) * (second - 2) / 2 + (first - 1)) * 16
+    }
+
+    // Where the row of a form of the first label stands.
+    pub(crate) fn row(self, form: u8) -> usize
+        requires { Within max_forms form }
+        ensures place { result ≡ row_at self.first self.second form }
+        ensures room { result + 1 ≤ all_rows }
+    {
+        self.table() + (usize::from(form) - 1)
+    }
+}
+
+// Whether each is a size that a label can have.
+fn are_sizes(sizes: &[u8]) -> bool
+    ensures { IsTrue result ↔ EachIndex sizes.now (λ k. Within max_forms (slice_index sizes.now k)) }
+{
+    sizes.iter().all(|size| (1..=MAX_FORMS).contains(size))
+}
+
+// Labels of these sizes, with all their forms live.
+impl TryFrom<&[u8]> for Frame {
+    type Error = Refusal;
+
+    ghost try_from_gives = { λ sizes result. FrameFrom sizes.now result };
+
+    fn try_from(sizes: &[u8]) -> Result<Frame, Refusal> {
+        if sizes.len() > usize::from(MAX_LABELS) || !are_sizes(sizes) {
+            return Err(Refusal::OutsideLimits);
+        }
+        let mut labels = [Label::of(0); 16];
+        for (k, size) in sizes.iter().enumerate() {
+            labels[k] = Label::of(*size);
+        }
+        Ok(Frame {
+            count: sizes.len() as u8,
+            labels,
+        })
+    }
 }
 
 impl Frame {
     pub(crate) fn none() -> Frame
-        ensures { result.labels ≡ 0 }
+        ensures { result.count ≡ 0 }
     {
         Frame {
-            labels: 0,
-            sizes: [0; 16],
-            live: [0; 16],
+            count: 0,
+            labels: [Label::of(0); 16],
         }
     }
 
-    // Labels of these sizes, with all their forms live.
-    pub(crate) fn of(sizes: &[u8]) -> Frame
-        requires { Sizes sizes.now }
-        ensures { FrameOpened sizes.now result }
+    fn has_label(&self, i: u8) -> bool
+        ensures { Decides result (Within self.now.count i) }
     {
-        let mut own = [0u8; 16];
-        let mut live = [0u16; 16];
-        for k in 0..sizes.len() {
-            own[k] = sizes[k];
-            live[k] = up_to(sizes[k]);
-        }
-        Frame {
-            labels: sizes.len() as u8,
-            sizes: own,
-            live,
-        }
+        (1..=self.count).contains(&i)
     }
 
-    pub(crate) fn has_label(&self, i: u8) -> bool
-        ensures { Decides result (Within self.now.labels i) }
+    // The label, if the panel has it.
+    fn label(&self, i: u8) -> Option<Label>
+        ensures { MatchOption result (Within self.now.count i → ⊥) (λ label. Within self.now.count i × (label ≡ label_at self.now i)) }
     {
-        i != 0 && i <= self.labels
+        if !self.has_label(i) {
+            return None;
+        }
+        Some(self.labels[usize::from(i) - 1])
     }
 
-    // Whether a table may be given for the two labels.
-    pub(crate) fn in_order(&self, i: u8, j: u8) -> bool
-        ensures { Decides result (Ordered self.now.labels i j) }
+    // The two labels, if a table may be given for them.
+    pub(crate) fn pair(&self, i: u8, j: u8) -> Option<LabelPair>
+        ensures { MatchOption result (Ordered self.now.count i j → ⊥) (λ labels. Ordered self.now.count i j × ((labels.first ≡ i) × (labels.second ≡ j))) }
     {
-        i != 0 && i < j && j <= self.labels
+        if 1 <= i && i < j && j <= self.count {
+            Some(LabelPair {
+                first: i,
+                second: j,
+            })
+        } else {
+            None
+        }
     }
 
     pub(crate) fn size(&self, i: u8) -> u8
         ensures { result ≡ frame_size self.now i }
     {
-        if !self.has_label(i) {
-            return 0;
-        }
-        self.sizes[i as usize - 1]
-    }
-
-    pub(crate) fn has_form(&self, i: u8, a: u8) -> bool
-        ensures { Decides result (Within (frame_size self.now i) a) }
-    {
-        a != 0 && a <= self.size(i)
+        self.label(i).map_or(0, |label| label.size)
     }
 
     // The live forms of a label, as the bits of a row.
     pub(crate) fn forms(&self, i: u8) -> u16
         ensures { (a : ℕ) → in_row result a ≡ frame_live self.now i a }
     {
-        if !self.has_label(i) {
-            return 0;
+        self.label(i).map_or(0, |label| label.live)
+    }
+
+    pub(crate) fn live(&self, w: Wording) -> bool
+        ensures { result ≡ frame_live self.now w.label w.form }
+    {
+        has_form(self.forms(w.label), w.form)
+    }
+
+    // The frame with a form not live, if the panel has that form.
+    pub(crate) fn struck(&self, w: Wording) -> Result<Frame, Refusal>
+        ensures { MatchResult result
+            (λ frame. Within self.now.count w.label × (Within (frame_size self.now w.label) w.form × FrameStruck self.now w.label w.form frame))
+            (StrikeRefused self.now.count (frame_size self.now) w.label w.form) }
+    {
+        let label = self.label(w.label).ok_or(Refusal::NoLabel)?;
+        if !(1..=label.size).contains(&w.form) {
+            return Err(Refusal::NoForm);
         }
-        self.live[i as usize - 1]
-    }
-
-    pub(crate) fn live(&self, i: u8, a: u8) -> bool
-        ensures { result ≡ frame_live self.now i a }
-    {
-        has_form(self.forms(i), a)
-    }
-
-    pub(crate) fn strike(&mut self, i: u8, a: u8)
-        requires label { Within self.old.labels i }
-        requires form { Within (frame_size self.old i) a }
-        ensures { FrameStruck self.old i a self.new }
-    {
-        let k = i as usize - 1;
-        self.live[k] = without(self.live[k], with_form(0, a));
+        let mut labels = self.labels;
+        labels[usize::from(w.label) - 1] = label.struck(w.form);
+        Ok(Frame {
+            count: self.count,
+            labels,
+        })
     }
 }

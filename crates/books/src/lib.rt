@@ -1,10 +1,9 @@
 // Books: stores for the forms and pairs of a panel.
 #![tactic(auto)]
 
-mod asking;
 mod book;
+mod booking;
 mod compact;
-mod compact_book;
 mod compact_row;
 mod compact_rows;
 mod ends;
@@ -13,14 +12,17 @@ mod frame;
 mod framing;
 mod full;
 mod full_rows;
-mod holding;
-mod mending;
-mod place;
-mod rows;
+mod label;
+mod label_pair;
+mod rewriting;
+mod store;
+mod stored;
 mod table;
 #[cfg(test)]
 mod tests;
+mod wording;
 
 pub use book::Book;
-pub use compact_book::CompactBook;
+pub use compact::CompactBook;
 pub use full::FullBook;
+pub use wording::Wording;

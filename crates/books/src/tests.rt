@@ -1,7 +1,7 @@
 ghost use Rattle.rules.specs.Limits.{Within};
 
-use crate::{Book, CompactBook, FullBook};
-use rules::{Greatest, Middle, Rule, number_of};
+use crate::{Book, CompactBook, FullBook, Wording};
+use rules::{Greatest, Middle, number_of};
 use std::process::Abort;
 
 // The rows of a table for labels 1 and 2 of four forms, which both books hold: 3 | 4 | 1,4 | 2,3,4.
@@ -9,15 +9,15 @@ const FOUR: [u16; 16] = [
     0b0100, 0b1000, 0b1001, 0b1110, 0, 0, 0, 0, 0, 0, 0, 0, 0, 0, 0, 0,
 ];
 
-// No contract names the constant of the trait, so a test compares it with what the function answers.
+fn at(label: u8, form: u8) -> Wording {
+    Wording { label, form }
+}
+
 #[test]
 fn numbers(rt: HostRuntime) {
     assert_eq!(rt; FullBook::<Greatest>::RULE, 1);
-    assert_eq!(rt; FullBook::<Greatest>::rule_number(), 1);
     assert_eq!(rt; FullBook::<Middle>::RULE, 2);
-    assert_eq!(rt; FullBook::<Middle>::rule_number(), 2);
     assert_eq!(rt; CompactBook::RULE, 1);
-    assert_eq!(rt; CompactBook::rule_number(), 1);
 }
 
 // The two numbers that the compact book keeps for a form of label 1 towards label 2: their rows stand first.
@@ -39,10 +39,10 @@ fn two_numbers(rt: HostRuntime) {
     assert_eq!(rt; kept(&book, 4), (2, 3));
     assert_eq!(rt; kept(&book, 5), (17, 17));
     // A struck form leaves the rows that have it, and its own row.
-    assert_eq!(rt; number_of(&book.strike(2, 3)), 0);
+    assert_eq!(rt; number_of(&book.strike(at(2, 3))), 0);
     assert_eq!(rt; kept(&book, 1), (17, 17));
     assert_eq!(rt; kept(&book, 4), (2, 4));
-    assert_eq!(rt; number_of(&book.strike(1, 4)), 0);
+    assert_eq!(rt; number_of(&book.strike(at(1, 4))), 0);
     assert_eq!(rt; kept(&book, 4), (17, 17));
     assert_eq!(rt; kept(&book, 3), (1, 4));
 }
@@ -73,28 +73,28 @@ fn alike<B: Book>(rt: &impl Abort, book: &mut B) {
     assert_eq!(rt; book.labels(), 3);
     assert_eq!(rt; book.size(3), 2);
     assert_eq!(rt; book.size(4), 0);
-    assert_eq!(rt; book.permitted(1, 1, 2, 1), true);
+    assert_eq!(rt; book.permitted(at(1, 1), at(2, 1)), true);
     assert_eq!(rt; number_of(&book.narrow(1, 2, FOUR)), 0);
-    assert_eq!(rt; book.permitted(1, 1, 2, 1), false);
-    assert_eq!(rt; book.permitted(1, 3, 2, 4), true);
-    assert_eq!(rt; book.permitted(2, 4, 1, 3), true);
-    assert_eq!(rt; book.permitted(2, 3, 1, 4), true);
-    assert_eq!(rt; book.permitted(2, 4, 1, 1), false);
-    assert_eq!(rt; book.partners(1, 4, 2), 0b1110);
-    assert_eq!(rt; book.partners(2, 4, 1), 0b1110);
-    assert_eq!(rt; book.partners(2, 2, 2), 0b0010);
-    assert_eq!(rt; book.partners(1, 1, 4), 0);
+    assert_eq!(rt; book.permitted(at(1, 1), at(2, 1)), false);
+    assert_eq!(rt; book.permitted(at(1, 3), at(2, 4)), true);
+    assert_eq!(rt; book.permitted(at(2, 4), at(1, 3)), true);
+    assert_eq!(rt; book.permitted(at(2, 3), at(1, 4)), true);
+    assert_eq!(rt; book.permitted(at(2, 4), at(1, 1)), false);
+    assert_eq!(rt; book.partners(at(1, 4), 2), 0b1110);
+    assert_eq!(rt; book.partners(at(2, 4), 1), 0b1110);
+    assert_eq!(rt; book.partners(at(2, 2), 2), 0b0010);
+    assert_eq!(rt; book.partners(at(1, 1), 4), 0);
     assert_eq!(rt; number_of(&book.narrow(2, 1, FOUR)), 2);
     assert_eq!(rt; number_of(&book.narrow(255, 255, FOUR)), 2);
     assert_eq!(rt; number_of(&book.narrow(1, 3, FOUR)), 4);
-    assert_eq!(rt; number_of(&book.strike(4, 1)), 2);
-    assert_eq!(rt; number_of(&book.strike(3, 3)), 3);
-    assert_eq!(rt; number_of(&book.strike(2, 3)), 0);
-    assert_eq!(rt; number_of(&book.strike(2, 3)), 0);
-    assert_eq!(rt; book.live(2, 3), false);
+    assert_eq!(rt; number_of(&book.strike(at(4, 1))), 2);
+    assert_eq!(rt; number_of(&book.strike(at(3, 3))), 3);
+    assert_eq!(rt; number_of(&book.strike(at(2, 3))), 0);
+    assert_eq!(rt; number_of(&book.strike(at(2, 3))), 0);
+    assert_eq!(rt; book.live(at(2, 3)), false);
     assert_eq!(rt; book.size(2), 4);
-    assert_eq!(rt; book.permitted(1, 4, 2, 3), false);
-    assert_eq!(rt; book.partners(1, 4, 2), 0b1010);
+    assert_eq!(rt; book.permitted(at(1, 4), at(2, 3)), false);
+    assert_eq!(rt; book.partners(at(1, 4), 2), 0b1010);
     book.empty();
     assert_eq!(rt; book.labels(), 0);
 }
@@ -116,8 +116,8 @@ fn holding(rt: HostRuntime) {
     let mut compact = CompactBook::new();
     assert_eq!(rt; number_of(&compact.open(&[1, 4])), 0);
     assert_eq!(rt; number_of(&compact.narrow(1, 2, row(0b0101))), 11);
-    assert_eq!(rt; compact.partners(1, 1, 2), 0b1111);
-    assert_eq!(rt; number_of(&compact.strike(2, 4)), 0);
+    assert_eq!(rt; compact.partners(at(1, 1), 2), 0b1111);
+    assert_eq!(rt; number_of(&compact.strike(at(2, 4))), 0);
     assert_eq!(rt; number_of(&compact.narrow(1, 2, row(0b0101))), 0);
-    assert_eq!(rt; compact.partners(1, 1, 2), 0b0101);
+    assert_eq!(rt; compact.partners(at(1, 1), 2), 0b0101);
 }

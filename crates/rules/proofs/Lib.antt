@@ -1,3 +1,4 @@
 pub mod Truth
+pub mod Options
 pub mod Rows
 pub mod Pairs

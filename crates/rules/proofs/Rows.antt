@@ -1,13 +1,12 @@
 -- Which forms a row has and which pairs rows permit, read off the bits.
-use Rattle.std.proofs.Common.{◌≡◌, ℕ, ◌+◌, ◌-◌, ◌*◌, ◌/◌, ◌%◌, ◌^◌, ◌<◌, ◌≤◌, false, T, eqb, leb, List, length, get_or, ◌∙◌, arith, pow_mono}
+use Rattle.std.proofs.Common.{◌≡◌, ℕ, zero, suc, ◌+◌, ◌-◌, ◌*◌, ◌/◌, ◌%◌, ◌^◌, ◌<◌, ◌≤◌, false, T, eqb, leb, List, length, get_or, ◌∙◌, arith, pow_mono}
 use native.Mathlib.Decide.{dec_lt}
-use native.Mathlib.Nat.{div-eq_of_lt}
+use native.Mathlib.Nat.{div-eq_of_lt, two-pow-succ}
 use Rattle.std.proofs.lemmas.Nat.{pow_pos, pow-add, leading_top, le-div, div_below}
 use Rattle.std.proofs.lemmas.List.{get_or_past}
 use Rattle.std.proofs.lemmas.Bool.{and_left, and_parts, le-leb, lt-leb, leb-true}
-use Rattle.rules.specs.Limits.{Within}
+use Rattle.rules.specs.Limits.{Within, max_forms}
 use Rattle.rules.specs.Tables.{in_row, permits, IsTable}
-use Rattle.rules.specs.Partial.{Bounded}
 use Rattle.rules.proofs.Truth.{is_true, passes, fails}
 
 pub in_row_zero : (row b : ℕ) → b ≡ 0 → in_row row b ≡ false
@@ -35,10 +34,14 @@ in_row_within row b c small h = (
   elim (dec_lt c b) [ yes past ↦ absurd (fails _ (in_row_past row b c small past) h) | no near ↦ omega arith ],
 )
 
+below_power : (n : ℕ) → n < 2 ^ n
+below_power zero = omega arith
+below_power (suc n) = omega (arith, below_power n, two-pow-succ n, pow_pos n)
+
 -- the highest form of a row that is not 0
-top_form : (row : ℕ) → 0 < row → row < 2 ^ 16 → (j : ℕ) × (T (in_row row (j + 1)) × (row < 2 ^ (j + 1)))
-top_form row pos h =
-    let e = leading_top 16 row pos h in
+top_form : (row : ℕ) → 0 < row → (j : ℕ) × (T (in_row row (j + 1)) × (row < 2 ^ (j + 1)))
+top_form row pos =
+    let e = leading_top row row pos (below_power row) in
     let j = e.0 in
     let back : j + 1 - 1 ≡ j = omega arith in
     let up : 2 ^ (j + 1) ≡ 2 ^ j * 2 = pow-add 2 j 1 in
@@ -48,9 +51,9 @@ top_form row pos h =
     (j, (passes _ (in_row_at row (j + 1) (omega arith) ∙ rw (back, one)), omega (arith, up, high)))
 
 -- a row with no form past c is below 2 to the power c
-pub row_below : (row c : ℕ) → row < 2 ^ 16 → ((b : ℕ) → T (in_row row b) → b ≤ c) → row < 2 ^ c
-row_below row c h within = elim (dec_lt 0 row) [
-  | yes pos ↦ let t = top_form row pos h in
+pub row_below : (row c : ℕ) → ((b : ℕ) → T (in_row row b) → b ≤ c) → row < 2 ^ c
+row_below row c within = elim (dec_lt 0 row) [
+  | yes pos ↦ let t = top_form row pos in
       omega (arith, t.1.1, pow_mono {i = t.0 + 1} {j = c} (within (t.0 + 1) t.1.0))
   | no none ↦ omega (arith, pow_pos c)
 ]
@@ -92,11 +95,18 @@ row_permits rows k b h =
     passes _ (permits_at rows (k + 1) b (omega arith) ∙ rw back (is_true _ h))
 
 -- the rows of a table are below 2 to the power of its size
-pub table_row : (rows : List ℕ) (size k : ℕ) → get_or rows k 0 < 2 ^ 16 → IsTable rows size → get_or rows k 0 < 2 ^ size
-table_row rows size k typed t = row_below (get_or rows k 0) size typed (λ b h. t.inside (k + 1) b (row_permits rows k b h))
+pub table_row : (rows : List ℕ) (size k : ℕ) → IsTable rows size → get_or rows k 0 < 2 ^ size
+table_row rows size k t = row_below (get_or rows k 0) size (λ b h. t.inside (k + 1) b (row_permits rows k b h))
 
-pub table_bounded : (rows : List ℕ) (size : ℕ) → IsTable rows size → Bounded rows
-unfolding Bounded
+-- a row whose bits from form c + 1 on are none is below 2 to the power c
+pub row_small : (row c : ℕ) → row / 2 ^ c ≡ 0 → row < 2 ^ c
+row_small row c e = elim (dec_lt row (2 ^ c)) [
+  | yes small ↦ small
+  | no large ↦ absurd (omega (arith, le-div 1 row (2 ^ c) (pow_pos c) (omega arith)))
+]
+
+-- each pair of a table is of forms that a label can have, so that loops over these miss none
+pub table_bounded : (rows : List ℕ) (size : ℕ) → IsTable rows size → (a b : ℕ) → T (permits rows a b) → Within max_forms a × Within max_forms b
 table_bounded rows size t a b h =
     let first = permits_first rows a b h in
     let second = in_row_first (get_or rows (a - 1) 0) b (permits_row rows a b h).1 in

@@ -4,3 +4,4 @@ pub mod Votes
 pub mod Tables
 pub mod Closing
 pub mod Partial
+pub mod Lending

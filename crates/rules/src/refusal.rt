@@ -33,12 +33,12 @@ pub enum Refusal {
     WrongRule = 13,
 }
 
-impl Refusal {
-    // The number that a maker sees.
-    pub fn number(self) -> u8
-        ensures { result ≡ refusal_number self }
-    {
-        self as u8
+// The number that a maker sees.
+impl From<Refusal> for u8 {
+    ghost from_gives = { λ refusal number. number ≡ refusal_number refusal };
+
+    fn from(refusal: Refusal) -> u8 {
+        refusal as u8
     }
 }
 
@@ -48,6 +48,6 @@ pub fn number_of<T>(answer: &Result<T, Refusal>) -> u8
 {
     match answer {
         Ok(_) => 0,
-        Err(refusal) => refusal.number(),
+        Err(refusal) => u8::from(*refusal),
     }
 }

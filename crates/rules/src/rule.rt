@@ -4,18 +4,14 @@ ghost use Rattle.rules.specs.Votes.{Vote, Majority, Chosen, SameVote, greatest, 
 
 // A way to choose one of three forms: its vote.
 pub trait Rule {
-    // The number by which sheets name the rule, for code that wants a constant. Laws and contracts speak of `numbered`.
+    // The number by which sheets name the rule.
     const NUMBER: u16;
 
-    // The number that the laws speak of.
-    ghost numbered: { ℕ };
+    // The same number, for laws and contracts: the checker refuses a rule whose two differ.
+    ghost NUMBER: { ℕ };
 
     // The vote on every three numbers.
     ghost voted: { Vote };
-
-    // The number that the laws speak of, for generic code to ask. An impl answers its NUMBER.
-    fn rule_number() -> u16
-        ensures { result ≡ numbered };
 
     fn vote(a: u8, b: u8, c: u8) -> u8
         ensures { result ≡ voted a b c };
@@ -24,10 +20,10 @@ pub trait Rule {
 
     ghost chosen: { Chosen voted };
 
-    ghost range: { Within max_rule numbered };
+    ghost range: { Within max_rule NUMBER };
 
     // A rule that takes the number 1 or 2 votes as that rule does.
-    ghost one: { numbered ≡ 1 → SameVote voted greatest };
+    ghost one: { NUMBER ≡ 1 → SameVote voted greatest };
 
-    ghost two: { numbered ≡ 2 → SameVote voted middle };
+    ghost two: { NUMBER ≡ 2 → SameVote voted middle };
 }

@@ -16,7 +16,7 @@ pub struct Middle;
 impl Rule for Greatest {
     const NUMBER: u16 = 1;
 
-    ghost numbered = { 1 };
+    ghost NUMBER = { 1 };
 
     ghost voted = { greatest };
 
@@ -29,10 +29,6 @@ impl Rule for Greatest {
     ghost one = { Prim.search rules };
 
     ghost two = { Prim.search rules };
-
-    fn rule_number() -> u16 {
-        Self::NUMBER
-    }
 
     fn vote(a: u8, b: u8, c: u8) -> u8 {
         if a == b || a == c {
@@ -48,7 +44,7 @@ impl Rule for Greatest {
 impl Rule for Middle {
     const NUMBER: u16 = 2;
 
-    ghost numbered = { 2 };
+    ghost NUMBER = { 2 };
 
     ghost voted = { middle };
 
@@ -61,10 +57,6 @@ impl Rule for Middle {
     ghost one = { Prim.search rules };
 
     ghost two = { Prim.search rules };
-
-    fn rule_number() -> u16 {
-        Self::NUMBER
-    }
 
     fn vote(a: u8, b: u8, c: u8) -> u8 {
         a.min(b).max(a.max(b).min(c))

@@ -1,20 +1,17 @@
 // A tour of the fitter. A maker brings rows for two labels; each is drawn and judged under both rules.
 #![tactic(auto)]
 
+mod fault;
 mod grid;
 mod judging;
-mod row_list;
-mod sample;
+mod samples;
 mod saying;
-mod search;
-mod verdict;
-mod witness;
 
 use grid::Grid;
 use judging::judge;
-use row_list::RowList;
-use rules::{Greatest, Middle, Refusal, Rule, Tested, limits};
-use sample::{SAMPLES, Sample};
+use listing::RowList;
+use rules::{Greatest, Lent, Middle, Refusal, Rule, Tested, limits};
+use samples::SAMPLES;
 use saying::Saying;
 use std::io;
 
@@ -36,33 +33,35 @@ fn introduce(rt: &impl Print) -> io::Result<()> {
     println!(rt;
         "A table is closed if every three of its pairs vote for a pair of it, and then the rule takes it."
     )?;
-    let no_table = Refusal::NoTable.number();
-    let not_closed = Refusal::NotClosed.number();
+    let no_table = u8::from(Refusal::NoTable);
+    let not_closed = u8::from(Refusal::NotClosed);
     println!(rt; "0 stands for taken, {no_table} for no table, {not_closed} for not closed.")
 }
 
-fn judge_by<R: Tested>(rt: &impl Print, sample: Sample) -> io::Result<()> {
-    let rule = R::rule_number();
-    let verdict = judge::<R>(sample.rows, sample.size);
-    println!(rt; "   {}", Saying { rule, verdict })
+fn judge_by<R: Tested>(rt: &impl Print, lent: Lent) -> io::Result<()> {
+    let saying = Saying {
+        rule: R::NUMBER,
+        verdict: judge::<R>(lent),
+    };
+    println!(rt; "   {saying}")
 }
 
-fn visit(rt: &impl Print, place: usize, sample: Sample) -> io::Result<()> {
-    let Sample { rows, size } = sample;
-    let count = rows.len();
+fn visit(rt: &impl Print, place: usize, lent: Lent) -> io::Result<()> {
+    let Lent { rows, size } = lent;
     println!(rt;
-        "\n{place}. {count} rows: {}; size of the second label: {size}",
+        "\n{place}. {} rows: {}; size of the second label: {size}",
+        rows.len(),
         RowList(rows)
     )?;
-    println!(rt; "{}", Grid { rows, size })?;
-    judge_by::<Greatest>(rt, sample)?;
-    judge_by::<Middle>(rt, sample)
+    println!(rt; "{}", Grid(lent))?;
+    judge_by::<Greatest>(rt, lent)?;
+    judge_by::<Middle>(rt, lent)
 }
 
 fn main(rt: HostRuntime) -> io::Result<()> {
     introduce(&rt)?;
-    for (k, sample) in SAMPLES.iter().enumerate() {
-        visit(&rt, k + 1, *sample)?;
+    for (k, lent) in SAMPLES.iter().enumerate() {
+        visit(&rt, k + 1, *lent)?;
     }
     Ok(())
 }

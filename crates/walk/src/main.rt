@@ -1,20 +1,19 @@
 // A walk through the calls of a book: the same steps are taken with both books.
 #![tactic(auto)]
 
-mod row_list;
-mod sample;
+mod samples;
 mod step;
 mod walking;
 
 use books::{Book, CompactBook, FullBook};
 use rules::{Greatest, Refusal};
 use std::io;
-use step::STEPS;
+use step::steps;
 use walking::walk;
 
 fn visit_books(rt: &impl Print) -> io::Result<()> {
-    let not_held = Refusal::NotHeld.number();
-    let rule = CompactBook::rule_number();
+    let not_held = u8::from(Refusal::NotHeld);
+    let rule = CompactBook::RULE;
     println!(rt;
         "A book keeps a panel: its labels, which forms are live, and which pairs are permitted."
     )?;
@@ -26,7 +25,7 @@ fn visit_books(rt: &impl Print) -> io::Result<()> {
     )?;
     let mut full = FullBook::<Greatest>::new();
     let mut compact = CompactBook::new();
-    for step in STEPS {
+    for step in steps() {
         let one = walk(&mut full, step);
         let two = walk(&mut compact, step);
         println!(rt; "   {step}: full {one}, compact {two}")?;

@@ -1,5 +1,7 @@
-use crate::row_list::{FormList, RowList};
-use crate::sample::{Sample, WITH_PARTNERS, WITHOUT_PARTNER};
+use crate::samples::{WITH_PARTNERS, WITHOUT_PARTNER};
+use books::Wording;
+use listing::{FormList, RowList};
+use rules::{Refusal, number_of};
 use std::fmt;
 
 // One thing to do with a book, or to ask of it.
@@ -9,17 +11,17 @@ pub enum Step {
     Empty,
     Labels,
     Size(u8),
-    Live(u8, u8),
-    Permitted(u8, u8, u8, u8),
-    Partners(u8, u8, u8),
-    Strike(u8, u8),
-    Narrow(u8, u8, Sample),
+    Live(Wording),
+    Permitted(Wording, Wording),
+    Partners(Wording, u8),
+    Strike(Wording),
+    Narrow(u8, u8, &'static [u16]),
 }
 
-// What a book answers to a step: the number of a call, a count, yes or no, or the forms of a row.
+// What a book answers to a step: how a call ended, a count, yes or no, or the forms of a row.
 #[derive(Clone, Copy)]
 pub enum Answer {
-    Number(u8),
+    Outcome(Result<(), Refusal>),
     Count(u8),
     Yes(bool),
     Forms(u16),
@@ -46,19 +48,11 @@ impl fmt::Display for Step {
             Step::Empty => write!(f, "empty"),
             Step::Labels => write!(f, "how many labels"),
             Step::Size(i) => write!(f, "how many forms of label {i}"),
-            Step::Live(i, a) => write!(f, "is form {a} of label {i} live"),
-            Step::Permitted(i, a, j, b) => write!(
-                f,
-                "may form {a} of label {i} stand with form {b} of label {j}"
-            ),
-            Step::Partners(i, a, j) => write!(
-                f,
-                "which forms of label {j} may stand with form {a} of label {i}"
-            ),
-            Step::Strike(i, a) => write!(f, "strike form {a} of label {i}"),
-            Step::Narrow(i, j, table) => {
-                write!(f, "narrow labels {i} and {j} to {}", RowList(table.rows))
-            }
+            Step::Live(w) => write!(f, "is {w} live"),
+            Step::Permitted(one, two) => write!(f, "may {one} stand with {two}"),
+            Step::Partners(w, j) => write!(f, "which forms of label {j} may stand with {w}"),
+            Step::Strike(w) => write!(f, "strike {w}"),
+            Step::Narrow(i, j, rows) => write!(f, "narrow labels {i} and {j} to {}", RowList(rows)),
         }
     }
 }
@@ -66,7 +60,7 @@ impl fmt::Display for Step {
 impl fmt::Display for Answer {
     fn fmt<W: fmt::Write>(&self, f: &mut fmt::Formatter<W>) -> fmt::Result {
         match *self {
-            Answer::Number(n) => write!(f, "{n}"),
+            Answer::Outcome(outcome) => write!(f, "{}", number_of(&outcome)),
             Answer::Count(n) => write!(f, "{n}"),
             Answer::Yes(true) => write!(f, "yes"),
             Answer::Yes(false) => write!(f, "no"),
@@ -75,32 +69,38 @@ impl fmt::Display for Answer {
     }
 }
 
+fn at(label: u8, form: u8) -> Wording {
+    Wording { label, form }
+}
+
 // What the walk does with both books.
-pub const STEPS: [Step; 26] = [
-    Step::Labels,
-    Step::Open(&[4, 4, 2, 4]),
-    Step::Labels,
-    Step::Size(3),
-    Step::Size(5),
-    Step::Permitted(1, 1, 2, 1),
-    Step::Narrow(1, 2, WITH_PARTNERS),
-    Step::Permitted(1, 1, 2, 1),
-    Step::Permitted(2, 4, 1, 3),
-    Step::Partners(1, 4, 2),
-    Step::Strike(2, 3),
-    Step::Live(2, 3),
-    Step::Partners(1, 4, 2),
-    Step::Narrow(3, 4, WITHOUT_PARTNER),
-    Step::Partners(3, 1, 4),
-    Step::Strike(4, 3),
-    Step::Narrow(3, 4, WITHOUT_PARTNER),
-    Step::Partners(3, 1, 4),
-    Step::Narrow(2, 1, WITH_PARTNERS),
-    Step::Narrow(1, 3, WITH_PARTNERS),
-    Step::Strike(5, 1),
-    Step::Strike(1, 5),
-    Step::Open(&[4, 17]),
-    Step::Labels,
-    Step::Empty,
-    Step::Labels,
-];
+pub fn steps() -> [Step; 26] {
+    [
+        Step::Labels,
+        Step::Open(&[4, 4, 2, 4]),
+        Step::Labels,
+        Step::Size(3),
+        Step::Size(5),
+        Step::Permitted(at(1, 1), at(2, 1)),
+        Step::Narrow(1, 2, WITH_PARTNERS),
+        Step::Permitted(at(1, 1), at(2, 1)),
+        Step::Permitted(at(2, 4), at(1, 3)),
+        Step::Partners(at(1, 4), 2),
+        Step::Strike(at(2, 3)),
+        Step::Live(at(2, 3)),
+        Step::Partners(at(1, 4), 2),
+        Step::Narrow(3, 4, WITHOUT_PARTNER),
+        Step::Partners(at(3, 1), 4),
+        Step::Strike(at(4, 3)),
+        Step::Narrow(3, 4, WITHOUT_PARTNER),
+        Step::Partners(at(3, 1), 4),
+        Step::Narrow(2, 1, WITH_PARTNERS),
+        Step::Narrow(1, 3, WITH_PARTNERS),
+        Step::Strike(at(5, 1)),
+        Step::Strike(at(1, 5)),
+        Step::Open(&[4, 17]),
+        Step::Labels,
+        Step::Empty,
+        Step::Labels,
+    ]
+}

@@ -3,38 +3,34 @@ ghost use Rattle.walk.specs.Walking.{Sixteen, Walked};
 
 use crate::step::{Answer, Step};
 use books::Book;
-use rules::number_of;
 
 // The rows as a book takes them: sixteen, the missing ones empty.
 fn sixteen(rows: &[u16]) -> [u16; 16]
     ensures { Sixteen rows.now result }
 {
     let mut all = [0u16; 16];
-    for k in 0..rows.len().min(16) {
-        all[k] = rows[k];
+    for (k, row) in all.iter_mut().enumerate() {
+        *row = rows.get(k).copied().unwrap_or(0);
     }
     all
 }
 
+// A step is an enum and not a closure, since it is also printed, and is taken with books of two types.
 pub fn walk<B: Book>(book: &mut B, step: Step) -> Answer
     ensures { Walked B.view B.holds book.old book.new step result }
 {
     match step {
-        Step::Open(sizes) => Answer::Number(number_of(&book.open(sizes))),
+        Step::Open(sizes) => Answer::Outcome(book.open(sizes)),
         Step::Empty => {
             book.empty();
-            Answer::Number(0)
+            Answer::Outcome(Ok(()))
         }
         Step::Labels => Answer::Count(book.labels()),
         Step::Size(i) => Answer::Count(book.size(i)),
-        Step::Live(i, a) => Answer::Yes(book.live(i, a)),
-        Step::Permitted(i, a, j, b) => Answer::Yes(book.permitted(i, a, j, b)),
-        Step::Partners(i, a, j) => Answer::Forms(book.partners(i, a, j)),
-        Step::Strike(i, a) => Answer::Number(number_of(&book.strike(i, a))),
-        Step::Narrow(i, j, table) => Answer::Number(number_of(&book.narrow(
-            i,
-            j,
-            sixteen(table.rows),
-        ))),
+        Step::Live(w) => Answer::Yes(book.live(w)),
+        Step::Permitted(one, two) => Answer::Yes(book.permitted(one, two)),
+        Step::Partners(w, j) => Answer::Forms(book.partners(w, j)),
+        Step::Strike(w) => Answer::Outcome(book.strike(w)),
+        Step::Narrow(i, j, rows) => Answer::Outcome(book.narrow(i, j, sixteen(rows))),
     }
 }

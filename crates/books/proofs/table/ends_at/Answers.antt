@@ -1,4 +1,4 @@
-use Rattle.std.proofs.Common.{◌≡◌, ℕ, not, ◌&&◌, leb, sym, ap, ◌∙◌, ⊎_elim, arith}
+use Rattle.std.proofs.Common.{◌≡◌, ℕ, not, ◌&&◌, leb, sym, ap, ◌∙◌, ⊎_elim}
 use Rattle.std.proofs.lemmas.Bool.{eqb-true, eq-eqb, and_from, and_parts, and_right, le-leb, lt-leb, not-true, cases_lt, both_ways}
 use Rattle.rules.specs.Tables.{in_row}
 use Rattle.rules.proofs.Truth.{is_true, passes}
@@ -19,7 +19,7 @@ returns c =
           (c.without.ensures b ∙ and_from (in_row row b) (not (in_row c.up_to.result b)) (is_true _ t)
           (ap not (upto b ∙ and_right (leb 1 b) (leb b n) (lt-leb b n beyond))))))
           (λ near. near) (cases_lt n b)),
-      (λ within. eq-eqb past 0 (row_none past (omega (arith, c.without.type_inv)) (λ b t.
+      (λ within. eq-eqb past 0 (row_none past (λ b t.
           let p = and_parts (in_row row b) (not (in_row c.up_to.result b)) (sym (c.without.ensures b) ∙ is_true _ t) in
           let inside = passes _ p.0 in
           both_ways (in_row c.up_to.result b) (not-true _ p.1)

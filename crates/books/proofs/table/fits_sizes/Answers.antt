@@ -1,43 +1,43 @@
-use Rattle.std.proofs.Common.{◌≡◌, ℕ, ◌+◌, ◌-◌, ◌<◌, ◌≤◌, T, ◌⊎◌, get_or, refl, inl, inr, ⊎_elim, arith, below_more}
-use Rattle.std.proofs.lemmas.Bool.{false≢true}
+use Rattle.std.proofs.Common.{◌≡◌, ℕ, ◌+◌, ◌-◌, ◌<◌, ◌≤◌, T, get_or, ap, sym, subst, ◌∙◌, ⊎_elim, arith}
+use Rattle.std.proofs.lemmas.Bool.{false≢true, cases_lt}
+use Rattle.std.proofs.lemmas.List.{get_or-take, get_or-drop}
 use Rattle.rules.specs.Tables.{in_row}
 use Rattle.rules.proofs.Rows.{in_row_first, permits_first, permits_row, row_permits}
 use Rattle.books.proofs.table.fits_sizes.Goals as goal
-use Rattle.books.proofs.table.fits_sizes.Goals.{then-k-height, else-k-height}
 
--- the columns of row k
-abbrev Columns : ℕ → ℕ → ℕ → ℕ → Type 0
-Columns k height width columns = ((k < height) × (columns ≡ width)) ⊎ ((height ≤ k) × (columns ≡ 0))
-
-pub ends_at-requires : goal.ends_at-requires
-ends_at-requires c = elim c.if-k-height.branch [ then-k-height w ↦ omega (arith, w.columns-is, c.requires) | else-k-height w ↦ omega (arith, w.columns-is) ]
-
-pub returns-then-not-ends_at : goal.returns-then-not-ends_at
-returns-then-not-ends_at c =
-    let k = c.loop-k.k in
-    let columns : Columns k c.args.height c.args.width c.if-k-height.columns =
-    elim c.if-k-height.branch [ then-k-height w ↦ inl (w.if-k-height.true, w.columns-is) | else-k-height w ↦ inr (w.if-k-height.false, w.columns-is) ] in (
-      (λ e. absurd (false≢true e)),
-      (λ fits. c.if-not-ends_at.ensures.1 (λ b t.
-          let p = fits (k + 1) b (row_permits c.args.rows.now k b t) in
-          ⊎_elim (λ here. omega (arith, here.1, p.1)) (λ past. absurd (omega (arith, past.0, p.0))) columns)),
+pub returns-then-all_end_at : goal.returns-then-all_end_at
+returns-then-all_end_at c =
+    let rows = c.args.rows.now in
+    let h = c.args.height in
+    let from : c.from.result ≡ h = c.from.ensures in
+    let front : (k b : ℕ) → k < h → T (in_row (get_or rows k 0) b) → b ≤ c.args.width = λ k b l t.
+    let same : get_or c.split_at.result.0.now k 0 ≡ get_or rows k 0 = ap (λ p. get_or p k 0) c.split_at.ensures.front ∙ get_or-take c.from.result rows k 0 (omega (arith, from)) in
+    c.all_end_at.ensures.0 c.if-all_end_at.true k (omega (arith, c.split_at.ensures.front_len, from)) b (subst (λ row. T (in_row row b)) (sym same) t) in
+    let back : (k : ℕ) → get_or c.split_at.result.1.now k 0 ≡ get_or rows (c.from.result + k) 0 = λ k.
+    ap (λ p. get_or p k 0) c.split_at.ensures.back ∙ get_or-drop c.from.result rows k 0 in (
+      (λ e a b t.
+          let first = permits_first rows a b t in
+          let bit = (permits_row rows a b t).1 in
+          ⊎_elim (λ inside. (omega (arith, first.0), front (a - 1) b inside bit))
+          (λ past.
+          let k = a - 1 - h in
+          let place : c.from.result + k ≡ a - 1 = omega (arith, from) in
+          let none : b ≤ 0 = c.all_end_at-then-all_end_at.ensures.0 e k (omega (arith, c.split_at.ensures.back_len, from, first.0, first.1)) b
+          (subst (λ row. T (in_row row b)) (sym (back k ∙ ap (λ n. get_or rows n 0) place)) bit) in
+          absurd (omega (arith, none, in_row_first _ b bit)))
+          (cases_lt (a - 1) h)),
+      (λ fits. c.all_end_at-then-all_end_at.ensures.1 (λ k l b t.
+          let p = fits (c.from.result + k + 1) b (row_permits rows (c.from.result + k) b (subst (λ row. T (in_row row b)) (back k) t)) in
+          absurd (omega (arith, p.0, from)))),
     )
 
-pub loop-k-preserved : goal.loop-k-preserved
-loop-k-preserved c =
-    let k = c.loop-k.k in
-    let columns : Columns k c.args.height c.args.width c.if-k-height.columns =
-    elim c.if-k-height.branch [ then-k-height w ↦ inl (w.if-k-height.true, w.columns-is) | else-k-height w ↦ inr (w.if-k-height.false, w.columns-is) ] in
-    below_more (λ m. (b : ℕ) → T (in_row (get_or c.args.rows.now m 0) b) → (m < c.args.height) × (b ≤ c.args.width)) k c.loop-k.invariant
-    (λ b t.
-    let near = c.if-not-ends_at.ensures.0 refl b t in
-    ⊎_elim (λ here. (here.0, omega (arith, here.1, near))) (λ past. absurd (omega (arith, past.1, near, in_row_first _ b t))) columns)
-
-pub returns : goal.returns
-returns c = (
-  (λ _ a b t.
-      let first = permits_first c.args.rows.now a b t in
-      let p = c.loop-k.invariant (a - 1) (omega (arith, first.0, first.1)) b (permits_row c.args.rows.now a b t).1 in
-      (omega (arith, p.0), p.1)),
-  (λ _. refl),
-)
+pub returns-else-all_end_at : goal.returns-else-all_end_at
+returns-else-all_end_at c =
+    let rows = c.args.rows.now in
+    let from : c.from.result ≡ c.args.height = c.from.ensures in (
+      (λ e. absurd (false≢true (sym c.if-all_end_at.false ∙ e))),
+      (λ fits. c.all_end_at.ensures.1 (λ k l b t.
+          let short : k < c.from.result = omega (arith, l, c.split_at.ensures.front_len) in
+          let same : get_or c.split_at.result.0.now k 0 ≡ get_or rows k 0 = ap (λ p. get_or p k 0) c.split_at.ensures.front ∙ get_or-take c.from.result rows k 0 short in
+          (fits (k + 1) b (row_permits rows k b (subst (λ row. T (in_row row b)) same t))).1)),
+    )

@@ -1,52 +1,44 @@
-use Rattle.std.proofs.Common.{ℕ, ◌+◌, ◌-◌, ◌≤◌, T, get_or, sym, ◌∙◌, arith, below_more}
-use Rattle.rules.specs.Tables.{in_row}
-use Rattle.rules.proofs.Truth.{passes, fails}
-use Rattle.rules.proofs.Rows.{in_row_within, permits_row, permits_first, row_permits}
+use Rattle.std.proofs.Common.{rules, ℕ, ◌≡◌, ◌+◌, ◌-◌, ◌^◌, ◌<◌, ◌≤◌, ◌↔◌, max, List, [], ◌∷◌, length, map, get_or, arith, pow_mono}
+use lib.Count.{count_leading_zeros}
+use Rattle.std.specs.List.{All, fold}
+use Rattle.std.proofs.iter.runs.Made.{chains}
+use Rattle.std.proofs.lemmas.Nat.{leading_length, pow-add}
+use Rattle.std.proofs.lemmas.List.Elements.{All-cons, All-head, All-tail, All-from_get_or}
+use Rattle.rules.proofs.Rows.{row_below, row_permits, permits_first, permits_second}
+use Rattle.tour.specs.Drawing.{Room}
 use Rattle.tour.proofs.grid.last_column.Goals as goal
-use Rattle.tour.proofs.grid.last_column.Goals.{then-has_form, else-has_form}
 
--- the last column only grows, so the rows before keep their place
-pub loop-row-preserved : goal.loop-row-preserved
-loop-row-preserved c =
-    let rows = c.args.rows.now in
-    let last = c.loop-b.last in
-    let before = c.loop-row.invariant in
-    let here = c.loop-b.invariant in (
-      omega arith,
-      below_more (λ k. (b : ℕ) → T (in_row (get_or rows k 0) b) → b ≤ last) c.loop-row.row-index
-          (λ k h b t. omega (arith, before.1 k h b t))
-          (λ b t. here.1 b (omega (arith, (in_row_within _ b 16 (omega (arith, c.type_inv.rows c.loop-row.row-index)) t).1)) t),
-      here.2,
-    )
+-- the last form of a row, or 0
+abbrev last_form : ℕ → ℕ
+last_form row = 16 - count_leading_zeros 16 row
 
-pub loop-b-preserved : goal.loop-b-preserved
-loop-b-preserved c =
-    let rows = c.args.rows.now in
-    let k = c.loop-row.row-index in
-    let b = c.loop-b.b in
-    let inv = c.loop-b.invariant in
-    let last = c.if-has_form.last in
-    let P : ℕ → Type 0 = λ d. T (in_row (get_or rows k 0) d) → d ≤ last in
-    elim c.if-has_form.branch [
-      | then-has_form w ↦
-          let here = row_permits rows k b (passes _ (sym c.has_form.ensures ∙ w.if-has_form.true)) in (
-            omega arith,
-            below_more P b (λ d h t. omega (arith, inv.1 d h t)) (λ t. omega arith),
-            λ n room. omega (arith, inv.2 n room, room.pairs (k + 1) b here),
-          )
-      | else-has_form w ↦ (
-        omega arith,
-        below_more P b (λ d h t. omega (arith, inv.1 d h t)) (λ t. absurd (fails _ (sym c.has_form.ensures ∙ w.if-has_form.false) t)),
-        λ n room. omega (arith, inv.2 n room),
-      )
-    ]
+-- a row has no form past n
+abbrev Ends : ℕ → ℕ → Type 0
+Ends n row = last_form row ≤ n
+
+ends_below : (row n : ℕ) → row < 2 ^ 16 → Ends n row ↔ (row < 2 ^ n)
+ends_below row n small = let m = leading_length 16 row small in
+    grind (arith, m.1, m.2, m.3, pow-add 2 n 1, pow_mono {i = m.0} {j = n}, pow_mono {i = n + 1} {j = m.0})
+
+-- the greatest of a and the last forms of rows is up to n exactly where each of them is
+greatest_within : (a : ℕ) (rows : List ℕ) (n : ℕ) → (fold max a (map last_form rows) ≤ n) ↔ ((a ≤ n) × All (Ends n) rows)
+greatest_within a [] n = grind arith
+greatest_within a (row ∷ rows) n =
+    grind (arith, greatest_within (max a (last_form row)) rows n, All-cons (Ends n) row rows, All-head (Ends n) row rows, All-tail (Ends n) row rows)
+
+room_within : (rows : List ℕ) (size n : ℕ) → ((k : ℕ) → k < length rows → get_or rows k 0 < 2 ^ 16) → (fold max size (map last_form rows) ≤ n) ↔ Room rows size n
+room_within rows size n small = let within = greatest_within size rows n in (
+  λ h. let each = within.0 h in record {
+    forms = each.0;
+    pairs = λ a b t. let first = permits_first rows a b t in
+        (permits_second rows a b n ((ends_below _ n (small (a - 1) (omega arith))).0 (each.1 (a - 1) 0 (omega arith))) t).1;
+  },
+  λ room. within.1 (room.forms, All-from_get_or (Ends n) rows 0 (λ k h. (ends_below _ n (small k h)).1 (row_below _ n (λ b t. room.pairs (k + 1) b (row_permits rows k b t))))),
+)
 
 pub returns : goal.returns
-returns c = record {
-  enough = record {
-    forms = c.loop-row.invariant.0;
-    pairs = λ a b t. let first = permits_first c.args.rows.now a b t in
-        c.loop-row.invariant.1 (a - 1) (omega arith) b (permits_row c.args.rows.now a b t).1;
-  };
-  least = c.loop-row.invariant.2;
-}
+returns c =
+    let rows = c.args.lent.rows.now in
+    let last : c.fold.result ≡ fold max c.args.lent.size (map last_form rows) = search (rules, chains) in
+    let room : (n : ℕ) → (c.fold.result ≤ n) ↔ Room rows c.args.lent.size n = λ n. rw last (room_within rows c.args.lent.size n (search rules)) in
+    record { enough = (room c.fold.result).0 (omega arith); least = λ n. (room n).1 }

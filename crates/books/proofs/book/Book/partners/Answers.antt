@@ -1,8 +1,11 @@
-use Rattle.books.proofs.Partners.{partner_range, gather_none}
+use Rattle.std.proofs.Common.{rules}
+use Rattle.books.proofs.Partners.{partner_range, row_of}
 use Rattle.books.proofs.book.Book.partners.Goals as goal
 
-pub loop-b-init : goal.loop-b-init
-loop-b-init g c =
+pub returns : goal.returns
+returns g c =
     let v = g.Self.Book.view c.args.self.now in
-    gather_none (v.permitted c.args.i c.args.a c.args.j)
-    (λ b t. (partner_range v (g.met.Self.Book.limits c.args.self.now) c.args.i c.args.a c.args.j b t).0)
+    let w = c.args.w in
+    row_of (v.permitted w.label w.form c.args.j) c.forms_where.result
+    (partner_range v (g.met.Self.Book.limits c.args.self.now) w.label w.form c.args.j)
+    c.forms_where.ensures.outside (λ b form. search (rules, c.forms_where.ensures.inside b form))
