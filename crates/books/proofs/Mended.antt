@@ -1,24 +1,22 @@
 -- What mending does to the rows of the compact book, table by table.
 use Rattle.std.proofs.Common.{◌≡◌, ℕ, ◌-◌, ◌<◌, Bool, true, false, ◌&&◌, ◌||◌, T, List, get_or, sym, refl, ap, ◌∙◌, subst, ⊎_elim}
-use mathlib.Core.Path.{fun_ext}
 use Rattle.std.proofs.lemmas.Bool.{or_left, or_right, cases_Bool}
 use Rattle.rules.specs.Limits.{Within, max_forms}
 use Rattle.rules.specs.Tables.{in_row}
 use Rattle.rules.proofs.Truth.{is_true, passes, fails}
 use Rattle.books.specs.declared.frame.Frame.{Frame}
 use Rattle.books.specs.declared.compact_row.CompactRow.{CompactRow}
-use Rattle.books.specs.declared.compact_rows.CompactRows.{CompactRows}
 use Rattle.books.specs.Views.{Forms}
 use Rattle.books.specs.Changes.{Ordered}
 use Rattle.books.specs.Frames.{frame_live, linked, row_at, book_view}
-use Rattle.books.specs.Compact.{Tailed, reads, KeptIn, compact_row, pairs, Mending}
+use Rattle.books.specs.Compact.{CompactRows, Tailed, reads, KeptIn, compact_row, pairs, Mending}
 use Rattle.books.specs.Bools.{and_turn, left_from, under}
 use Rattle.books.specs.Labels.{live_form}
 use Rattle.books.specs.Linked.{linked_up}
-use Rattle.books.proofs.FirstTwo.{reads_tailed, stands, tailed_as}
+use Rattle.books.proofs.FirstTwo.{first_two_as, reads_tailed, stands, tailed_as}
 
 pub kept_as : (t u : Forms) (r r' : CompactRow) → ((b : ℕ) → t b ≡ u b) → r' ≡ r → KeptIn t r → KeptIn u r'
-kept_as t u r r' e same h = subst (λ x. KeptIn x r') (fun_ext e) (subst (KeptIn t) (sym same) h)
+kept_as t u r r' e same h = subst (KeptIn u) (sym same) (first_two_as t u r.first r.second e h)
 
 -- equal rows permit the same pairs
 pub row_permitted : (f : Frame) (s t : CompactRows) (p q x b : ℕ) → p < q → compact_row t (row_at p q x) ≡ compact_row s (row_at p q x)

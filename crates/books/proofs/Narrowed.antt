@@ -5,10 +5,9 @@ use Rattle.rules.specs.Tables.{in_row, permits}
 use Rattle.rules.proofs.Rows.{permits_at}
 use Rattle.rules.proofs.Truth.{is_true, passes, fails}
 use Rattle.books.specs.declared.frame.Frame.{Frame}
-use Rattle.books.specs.declared.compact_rows.CompactRows.{CompactRows}
 use Rattle.books.specs.Changes.{Ordered}
 use Rattle.books.specs.Frames.{frame_live, frame_cut, row_at}
-use Rattle.books.specs.Compact.{Tailed, Tails, reads, Exact, compact_row, pairs, is_pair, Mending}
+use Rattle.books.specs.Compact.{CompactRows, Tailed, Tails, reads, Exact, compact_row, pairs, is_pair, Mending}
 use Rattle.books.specs.Bools.{and_flip}
 use Rattle.books.specs.Labels.{live_form}
 use Rattle.books.specs.Stores.{Kept}

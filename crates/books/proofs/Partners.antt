@@ -1,34 +1,49 @@
--- The partners of a form, by the limits of every book, and forms that a test picks, gathered as the bits of a row.
-use Rattle.std.proofs.Common.{◌≡◌, ℕ, ◌<◌, ◌≤◌, Bool, T, sym, ◌∙◌, ⊎_elim, arith}
-use Rattle.std.proofs.lemmas.Bool.{cases_Bool}
+-- The partners of a form, by the limits of every book, and a loop that gathers forms as the bits of a row.
+use Rattle.std.proofs.Common.{◌≡◌, ℕ, ◌+◌, ◌<◌, ◌≤◌, true, false, ◌&&◌, ◌||◌, T, eqb, ltb, sym, ap, ◌∙◌, ⊎_elim, arith}
+use Rattle.std.proofs.lemmas.Bool.{and_left, and_right, and_from, or_right, eq-eqb, ne_eqb, lt-ltb, le-ltb, cases_lt, cases_eq, cases_Bool}
+use Rattle.std.proofs.lemmas.Bool.Decides.{nat_tests}
 use Rattle.rules.specs.Limits.{max_forms, Within}
 use Rattle.rules.specs.Tables.{in_row}
-use Rattle.rules.proofs.Truth.{passes, fails}
+use Rattle.rules.proofs.Truth.{passes}
 use Rattle.books.specs.Views.{Forms, View, Orderly}
-use Rattle.books.specs.Labels.{in_range}
+use Rattle.books.specs.Bools.{or_false}
 use Rattle.books.proofs.Bits.{in_row_none}
+use Rattle.books.specs.Labels.{in_range}
 
 -- a live form is one that a label can have
-live_range : (v : View) → Orderly v → (i a : ℕ) → T (v.live i a) → Within max_forms a
+pub live_range : (v : View) → Orderly v → (i a : ℕ) → T (v.live i a) → Within v.labels i × Within max_forms a
 live_range v o i a t =
     let s = o.living i a t in
-    ⊎_elim (λ w. (s.0, omega (arith, s.1, (o.sized i w).1))) (λ out. absurd (omega (arith, s.0, s.1, o.outside i out))) (in_range v.labels i)
+    ⊎_elim (λ w. (w, (s.0, omega (arith, s.1, (o.sized i w).1)))) (λ out. absurd (omega (arith, s.0, s.1, o.outside i out))) (in_range v.labels i)
 
 pub partner_range : (v : View) → Orderly v → (i a j b : ℕ) → T (v.permitted i a j b) → Within max_forms b
-partner_range v o i a j b t = live_range v o j b (o.both_live i a j b t).1
+partner_range v o i a j b t = (live_range v o j b (o.both_live i a j b t).1).1
 
--- a row of forms from 1 to 16 that agrees with P on these has the forms of P
-pub row_of : (P : Forms) (row : ℕ) → ((b : ℕ) → T (P b) → Within max_forms b) → ((b : ℕ) → T (in_row row b) → Within max_forms b)
-    → ((b : ℕ) → Within max_forms b → in_row row b ≡ P b) → (b : ℕ) → in_row row b ≡ P b
-row_of P row range only same b =
-    ⊎_elim (same b)
-    (λ out. ⊎_elim (λ t. absurd (out (only b (passes _ t)))) (λ f. f ∙ sym (⊎_elim (λ t. absurd (out (range b (passes _ t)))) (λ g. g) (cases_Bool (P b)))) (cases_Bool (in_row row b)))
-    (in_range max_forms b)
+-- before the first round nothing is gathered; there is no form 0
+pub gather_none : (P : Forms) → ((b : ℕ) → T (P b) → 1 ≤ b) → (x : ℕ) → in_row 0 x ≡ (ltb x 1 && P x)
+gather_none P low x =
+    in_row_none x
+    ∙ sym (⊎_elim (λ z. ⊎_elim (λ t. absurd (omega (arith, low x (passes _ t)))) (λ f. and_right (ltb x 1) (P x) f) (cases_Bool (P x)))
+    (λ z. and_left (ltb x 1) (P x) (le-ltb x 1 z)) (cases_lt x 1))
 
--- the row has what was answered to each form before b; answer x r: r was answered to form x
-abbrev pub Gathered : (ℕ → Bool → Type 0) → ℕ → ℕ → Type 0
-Gathered answer row b = ((x : ℕ) → 1 ≤ x → x < b → answer x (in_row row x)) × ((x : ℕ) → T (in_row row x) → (1 ≤ x) × (x < b))
+later : (x b : ℕ) → (x ≡ b → ⊥) → ltb x b ≡ ltb x (b + 1)
+later x b ne = grind (arith, nat_tests)
 
--- before the first round
-pub gather_none : (answer : ℕ → Bool → Type 0) → Gathered answer 0 1
-gather_none answer = ((λ x h l. absurd (omega arith)), (λ x t. absurd (fails _ (in_row_none x) t)))
+-- the row has the forms of P before b; one round more, and the end
+module _ (P : Forms) (row b : ℕ) (gathered : (x : ℕ) → in_row row x ≡ (ltb x b && P x)) where
+  pub gather_in : (row' : ℕ) → ((x : ℕ) → in_row row' x ≡ (in_row row x || eqb x b)) → P b ≡ true → (x : ℕ) → in_row row' x ≡ (ltb x (b + 1) && P x)
+  gather_in row' put is x =
+      put x ∙ ap (λ t. t || eqb x b) (gathered x)
+      ∙ ⊎_elim (λ e. or_right (ltb x b && P x) (eqb x b) (eq-eqb x b e) ∙ sym (and_from (ltb x (b + 1)) (P x) (lt-ltb x (b + 1) (omega arith)) (ap P e ∙ is)))
+      (λ ne. ap (λ t. (ltb x b && P x) || t) (ne_eqb x b ne) ∙ or_false (ltb x b && P x) ∙ ap (λ t. t && P x) (later x b ne))
+      (cases_eq x b)
+
+  pub gather_out : P b ≡ false → (x : ℕ) → in_row row x ≡ (ltb x (b + 1) && P x)
+  gather_out is x =
+      gathered x ∙ ⊎_elim (λ e. and_right (ltb x b) (P x) (ap P e ∙ is) ∙ sym (and_right (ltb x (b + 1)) (P x) (ap P e ∙ is)))
+      (λ ne. ap (λ t. t && P x) (later x b ne))
+      (cases_eq x b)
+
+  pub gather_done : max_forms < b → ((x : ℕ) → T (P x) → x ≤ max_forms) → (x : ℕ) → in_row row x ≡ P x
+  gather_done past high x =
+      gathered x ∙ ⊎_elim (λ t. and_from (ltb x b) (P x) (lt-ltb x b (omega (arith, high x (passes _ t)))) t ∙ sym t) (λ f. and_right (ltb x b) (P x) f ∙ sym f) (cases_Bool (P x))

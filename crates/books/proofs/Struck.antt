@@ -3,10 +3,9 @@ use Rattle.std.proofs.Common.{◌≡◌, ℕ, false, not, ◌&&◌, ◌||◌, eq
 use Rattle.std.proofs.lemmas.Bool.{or_parts, cases_Bool}
 use Rattle.rules.proofs.Truth.{passes, fails}
 use Rattle.books.specs.declared.frame.Frame.{Frame}
-use Rattle.books.specs.declared.compact_rows.CompactRows.{CompactRows}
 use Rattle.books.specs.Changes.{Ordered}
 use Rattle.books.specs.Frames.{frame_live, linked, row_at, FrameStruck}
-use Rattle.books.specs.Compact.{reads, Exact, compact_row, pairs, Mending, uncut}
+use Rattle.books.specs.Compact.{CompactRows, reads, Exact, compact_row, pairs, Mending, uncut}
 use Rattle.books.specs.Bools.{and_true}
 use Rattle.books.specs.Labels.{live_form}
 use Rattle.books.specs.Stores.{Unmoved}

@@ -1,12 +1,13 @@
 -- The compact book: what it can hold, and the two numbers that it keeps for a row.
-use Rattle.std.specs.Prelude.{◌≡◌, ℕ, ◌-◌, ◌<◌, ◌≤◌, Bool, ◌&&◌, ◌||◌, T, List, replicate, ◌==◌, nat_le, slice_index, slice_index_or}
+use Rattle.std.specs.Prelude.{◌≡◌, ℕ, ◌-◌, ◌<◌, ◌≤◌, Bool, ◌&&◌, ◌||◌, T, List, replicate, ◌==◌, nat_le, slice_index, slice_index_or, MatchOption, Option}
 use Rattle.std.proofs.Common.{arith}
 use Rattle.rules.specs.Limits.{Within, max_forms}
 use Rattle.rules.specs.Tables.{Table, in_row}
 use Rattle.books.specs.declared.frame.Frame.{Frame}
+use Rattle.books.specs.declared.label_pair.LabelPair.{LabelPair}
 use Rattle.books.specs.declared.compact_row.CompactRow.{CompactRow}
-use Rattle.books.specs.declared.compact_rows.CompactRows.{CompactRows}
-use Rattle.books.specs.Views.{Forms}
+use Rattle.books.specs.declared.rows.Rows.{Rows}
+use Rattle.books.specs.Views.{View, Forms}
 use Rattle.books.specs.Changes.{Ordered}
 use Rattle.books.specs.Frames.{book_view, frame_live, frame_cut, row_at}
 
@@ -49,6 +50,10 @@ KeptIn row r = FirstTwo row r.first r.second
 abbrev pub empty_row : CompactRow
 empty_row = record { first = 17; second = 17; one = (omega arith, omega arith); two = (omega arith, omega arith) }
 
+-- the rows of all tables, two numbers each
+abbrev pub CompactRows : Type 0
+CompactRows = Rows CompactRow
+
 -- the row at a place
 abbrev pub compact_row : CompactRows → ℕ → CompactRow
 compact_row s n = slice_index_or s.rows n empty_row
@@ -63,6 +68,12 @@ abbrev pub Exact : Frame → CompactRows → Type 0
 Exact f s = (i j a : ℕ) → Ordered f.count i j → Within max_forms a
     → KeptIn ((book_view f (pairs s)).permitted i a j) (compact_row s (row_at i j a))
 
+-- r keeps the row of form a as it is mended: of the live forms, those that the row was read to have and the given row has
+-- too, and none where form a is not live
+abbrev pub MendedRow : Frame → LabelPair → ℕ → CompactRow → ℕ → CompactRow → Type 0
+MendedRow f labels a was given r =
+    KeptIn (λ b. ((frame_live f labels.first a && frame_live f labels.second b) && reads was.first was.second b) && in_row given b) r
+
 -- sixteen rows with every form: they cut nothing off
 abbrev pub uncut : List ℕ
 uncut = replicate 16 65535
@@ -70,6 +81,12 @@ uncut = replicate 16 65535
 -- labels p and q are i and j
 abbrev pub is_pair : ℕ → ℕ → ℕ → ℕ → Bool
 is_pair i j p q = p == i && q == j
+
+-- what is told of the two numbers that are kept for form a of label i towards label j, or nothing where there is no such row
+abbrev pub KeptFor : View → ℕ → ℕ → ℕ → Option (ℕ × ℕ) → Type 0
+KeptFor v i a j result = MatchOption result
+    (Ordered v.labels i j × Within max_forms a → ⊥)
+    (λ two. Ordered v.labels i j × (Within max_forms a × ∥ FirstTwo (v.permitted i a j) two.0 two.1 ∥₁))
 
 -- what mending does to the rows: where a table is mended, the row of each form keeps, of what was permitted before, the
 -- first two forms that the given row has too; where it is not, the row stays

@@ -1,16 +1,17 @@
 -- The labels of a book with their sizes and live forms, and the view of a book whose rows stand by place. The two books of
 -- this crate are defined by it; no contract of the interface cites this file.
-use Rattle.std.specs.Prelude.{◌≡◌, ℕ, ◌+◌, ◌-◌, ◌*◌, ◌/◌, ◌<◌, Bool, cond, not, ◌&&◌, T, List, length, ◌==◌, nat_le, nat_lt, slice_index, slice_index_or, MatchResult, Result}
+use Rattle.std.specs.Prelude.{◌≡◌, ℕ, ◌+◌, ◌-◌, ◌*◌, ◌/◌, ◌<◌, Bool, cond, not, ◌&&◌, T, List, length, ◌==◌, nat_le, nat_lt, slice_index, slice_index_or, MatchOption, MatchResult, Option, Result}
 use Rattle.rules.specs.Limits.{Within}
 use Rattle.rules.specs.Tables.{Table, in_row, permits}
 use Rattle.rules.specs.declared.refusal.Refusal.{Refusal}
-use Rattle.rules.specs.declared.refusal.Refusal.TheVariants.{OutsideLimits}
+use Rattle.rules.specs.declared.refusal.Refusal.TheVariants.{OutsideLimits, NoLabel, NoForm}
 use Rattle.books.specs.declared.frame.Frame.{Frame}
 use Rattle.books.specs.declared.label.Label.{Label}
+use Rattle.books.specs.declared.label_pair.LabelPair.{LabelPair}
 use Rattle.books.specs.Sizing.{no_label}
 use Rattle.books.specs.Views.{View, Forms}
 use Rattle.books.specs.Holding.{cut}
-use Rattle.books.specs.Changes.{Sizes, is_form}
+use Rattle.books.specs.Changes.{Sizes, Ordered, is_form}
 
 -- k is from 1 to n, as a test
 abbrev pub within : ℕ → ℕ → Bool
@@ -20,9 +21,11 @@ within n k = nat_le 1 k && nat_le k n
 abbrev pub label_at : Frame → ℕ → Label
 label_at f i = slice_index_or f.labels (i - 1) no_label
 
+-- how many forms label i has; 0 where there is no such label
 unfoldable pub frame_size : Frame → ℕ → ℕ
 frame_size f i = cond (within f.count i) (label_at f i).size 0
 
+-- the live forms of label i
 unfoldable pub frame_live : Frame → ℕ → Forms
 frame_live f i a = within f.count i && in_row (label_at f i).live a
 
@@ -45,6 +48,25 @@ pub record FrameStruck (f : Frame) (i a : ℕ) (g : Frame) : Type 0 where
   pub labels : g.count ≡ f.count
   pub size : (k : ℕ) → frame_size g k ≡ frame_size f k
   pub live : (k x : ℕ) → frame_live g k x ≡ (frame_live f k x && not (is_form i a k x))
+
+-- the label i, or none where there is no such label
+abbrev pub LabelOf : Frame → ℕ → Option Label → Type 0
+LabelOf f i result = MatchOption result (Within f.count i → ⊥) (λ label. Within f.count i × (label ≡ label_at f i))
+
+-- the labels i and j, or none where a table may not be given for them
+abbrev pub PairOf : Frame → ℕ → ℕ → Option LabelPair → Type 0
+PairOf f i j result = MatchOption result (Ordered f.count i j → ⊥) (λ labels. Ordered f.count i j × ((labels.first ≡ i) × (labels.second ≡ j)))
+
+-- why a strike is refused, in a panel of so many labels and these sizes
+pub data StrikeRefused (labels : ℕ) (size : ℕ → ℕ) (i a : ℕ) : Refusal → Type 0 where
+  lacks_label : (Within labels i → ⊥) → StrikeRefused labels size i a NoLabel
+  lacks_form : Within labels i → (Within (size i) a → ⊥) → StrikeRefused labels size i a NoForm
+
+-- the frame after a strike, or the refusal
+abbrev pub StruckFrom : Frame → ℕ → ℕ → Result Frame Refusal → Type 0
+StruckFrom f i a result = MatchResult result
+    (λ g. Within f.count i × (Within (frame_size f i) a × FrameStruck f i a g))
+    (StrikeRefused f.count (frame_size f) i a)
 
 -- how many rows the tables of all two labels have
 abbrev pub all_rows : ℕ

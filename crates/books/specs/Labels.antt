@@ -54,9 +54,6 @@ module _ (f : Frame) where
   pub size_range : (i : ℕ) → Within f.count i → Within max_forms (frame_size f i)
   size_range i w = let k : i - 1 < f.count = omega (arith, w.0, w.1) in subst (Within max_forms) (sym (size_in i w)) (f.sized (i - 1) k, (label_at f i).sized)
 
-  pub size_small : (i : ℕ) → frame_size f i ≤ max_forms
-  size_small i = ⊎_elim (λ w. (size_range i w).1) (λ out. omega (arith, size_out i out)) (in_range f.count i)
-
   pub live_size : (i a : ℕ) → T (frame_live f i a) → Within (frame_size f i) a
   live_size i a t =
       let w = live_label i a t in
@@ -84,11 +81,11 @@ all_live f whole i a s =
     (in_range f.count i)
 
 -- a frame of which label i has lost form a
-module _ (f g : Frame) (i a : ℕ) (label : Label) (same : g.count ≡ f.count) (there : Within f.count i) (room : i - 1 < length f.labels)
-    (changed : g.labels ≡ slice_set f.labels (i - 1) label) (size : label.size ≡ (label_at f i).size)
+module _ (f g : Frame) (i a : ℕ) (label : Label) (same : g.count ≡ f.count) (there : Within f.count i)
+    (changed : g.labels ≡ slice_set f.labels (i - 1) label)
     (lost : (x : ℕ) → in_row label.live x ≡ (in_row (label_at f i).live x && not (x == a))) where
   here : label_at g i ≡ label
-  here = ap (λ l. slice_index_or l (i - 1) no_label) changed ∙ get_or-set_same f.labels (i - 1) label no_label room
+  here = let room : i - 1 < length f.labels = omega (arith, there.0, there.1, f.few, f.sixteen) in ap (λ l. slice_index_or l (i - 1) no_label) changed ∙ get_or-set_same f.labels (i - 1) label no_label room
 
   other : (k : ℕ) → 1 ≤ k → (k ≡ i → ⊥) → label_at g k ≡ label_at f k
   other k low ne = ap (λ l. slice_index_or l (k - 1) no_label) changed
@@ -100,8 +97,8 @@ module _ (f g : Frame) (i a : ℕ) (label : Label) (same : g.count ≡ f.count) 
   was_within : (k : ℕ) → (Within f.count k → ⊥) → Within g.count k → ⊥
   was_within k out v = out (v.0, omega (arith, v.1, same))
 
-  pub size_struck : (k : ℕ) → frame_size g k ≡ frame_size f k
-  size_struck k = ⊎_elim
+  pub size_struck : label.size ≡ (label_at f i).size → (k : ℕ) → frame_size g k ≡ frame_size f k
+  size_struck size k = ⊎_elim
       (λ w. size_in g k (still_within k w)
       ∙ ⊎_elim (λ e. ap (λ z. (label_at g z).size) e ∙ ap (λ l. l.size) here ∙ size ∙ ap (λ z. (label_at f z).size) (sym e)) (λ ne. ap (λ l. l.size) (other k w.0 ne)) (cases_eq k i)
       ∙ sym (size_in f k w))

@@ -5,6 +5,7 @@ pub mod Outcomes
 pub mod Sizing
 pub mod Frames
 pub mod Stores
+pub mod Answers
 pub mod Full
 pub mod Compact
 pub mod Linked

@@ -5,7 +5,7 @@ use Rattle.std.proofs.lemmas.Bool.{eqb-true, eq-eqb, ne_eqb, lt-ltb, le-ltb, con
 use Rattle.std.proofs.lemmas.Bool.Decides.{nat_tests}
 use Rattle.books.specs.declared.frame.Frame.{Frame}
 use Rattle.books.specs.Views.{Orderly}
-use Rattle.rules.specs.Tables.{permits}
+use Rattle.rules.specs.Tables.{Table}
 use Rattle.books.specs.Changes.{Opened, Struck, Narrowed, Ordered}
 use Rattle.books.specs.Frames.{frame_live, linked, row_at, book_view, FrameOpened, FrameStruck}
 use Rattle.books.specs.Stores.{Whole, Kept, Unmoved, RowsNarrowed}
@@ -91,15 +91,15 @@ struck f g i a before after s kept = record {
 }
 
 -- a narrowing: the rows of i and j lose the forms that the table does not permit, all others stay
-pub narrowed : (f : Frame) (i j : ℕ) (rows : List ℕ) (before after : ℕ → ℕ → Bool) → Ordered f.count i j
-    → RowsNarrowed f i j rows before after → Narrowed (book_view f before) i j (permits rows) (book_view f after)
-narrowed f i j rows before after o n = record {
+pub narrowed : (f : Frame) (i j : ℕ) (t : Table) (before after : ℕ → ℕ → Bool) → Ordered f.count i j
+    → RowsNarrowed f i j t before after → Narrowed (book_view f before) i j t (book_view f after)
+narrowed f i j t before after o n = record {
   labels = refl;
   size = λ k. refl;
   live = λ k x. refl;
   here = λ x y. gate (frame_live f i x) (frame_live f j y) _ _ (λ lx ly.
-      linked_up after i x j y o.1.0 ∙ n.inside x y lx ly ∙ ap (λ c. c && permits rows x y) (sym (linked_up before i x j y o.1.0)))
-      ∙ sym (and_assoc (frame_live f i x && frame_live f j y) (linked before i x j y) (permits rows x y));
+      linked_up after i x j y o.1.0 ∙ n.inside x y lx ly ∙ ap (λ c. c && t x y) (sym (linked_up before i x j y o.1.0)))
+      ∙ sym (and_assoc (frame_live f i x && frame_live f j y) (linked before i x j y) (t x y));
   elsewhere = λ k x l y ne en. gate (frame_live f k x) (frame_live f l y) _ _ (λ lx ly.
       let wk = live_label f k x lx in
       let wl = live_label f l y ly in

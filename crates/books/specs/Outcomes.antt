@@ -12,20 +12,18 @@ use Rattle.books.specs.Changes.{Sizes, Opened, Struck, Ordered, FitsSizes, Holda
 abbrev pub Answer : Type 0
 Answer = Result (Unit {0}) Refusal
 
+-- an opening with these sizes
 pub data Opening {B : Type 0} (view : B → View) (s : B) (sizes : List ℕ) (t : B) : Answer → Type 0 where
   open_done : Sizes sizes → Opened sizes (view t) → Opening view s sizes t (Ok tt)
   open_outside : (Sizes sizes → ⊥) → t ≡ s → Opening view s sizes t (Err OutsideLimits)
 
+-- a strike of form a of label i
 pub data Striking {B : Type 0} (view : B → View) (s : B) (i a : ℕ) (t : B) : Answer → Type 0 where
   strike_done : Within (view s).labels i → Within ((view s).size i) a → Struck (view s) i a (view t) → Striking view s i a t (Ok tt)
   strike_no_label : (Within (view s).labels i → ⊥) → t ≡ s → Striking view s i a t (Err NoLabel)
   strike_no_form : Within (view s).labels i → (Within ((view s).size i) a → ⊥) → t ≡ s → Striking view s i a t (Err NoForm)
 
--- why a strike is refused, in a panel of so many labels and these sizes
-pub data StrikeRefused (labels : ℕ) (size : ℕ → ℕ) (i a : ℕ) : Refusal → Type 0 where
-  lacks_label : (Within labels i → ⊥) → StrikeRefused labels size i a NoLabel
-  lacks_form : Within labels i → (Within (size i) a → ⊥) → StrikeRefused labels size i a NoForm
-
+-- a narrowing of labels i and j to the rows
 pub data Narrowing {B : Type 0} (view : B → View) (holds : Holds) (s : B) (i j : ℕ) (rows : List ℕ) (t : B) : Answer → Type 0 where
   narrow_done : Ordered (view s).labels i j → FitsSizes rows ((view s).size i) ((view s).size j) → Holdable holds (view s) i j rows
       → Narrowed (view s) i j (permits rows) (view t) → Narrowing view holds s i j rows t (Ok tt)

@@ -6,6 +6,10 @@ use Rattle.rules.specs.Limits.{max_labels, max_forms, Within}
 abbrev pub Forms : Type 0
 Forms = ℕ → Bool
 
+-- a set of forms that a label can have
+abbrev pub OfLabel : Forms → Type 0
+OfLabel P = (b : ℕ) → T (P b) → Within max_forms b
+
 -- all that a book can be asked; labels and forms count from 1
 pub record View : Type 0 where
   -- how many labels the panel has

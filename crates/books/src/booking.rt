@@ -2,6 +2,7 @@
 ghost use Rattle.std.specs.Prelude.{◌≡◌, ℕ, ◌≤◌, refl};
 ghost use Rattle.rules.specs.Tables.{in_row};
 ghost use Rattle.books.specs.Frames.{book_view};
+ghost use Rattle.books.specs.Stores.{Whole};
 ghost use Rattle.books.specs.Linked.{orderly};
 
 use crate::book::Book;
@@ -15,6 +16,19 @@ use rules::{Refusal, Rule, Tested, has_form};
 use std::marker::PhantomData;
 
 impl<R: Tested, S: Store<R>> Stored<R, S> {
+    // A book with these labels and every pair of live forms.
+    fn of(frame: Frame) -> Self
+        ensures frame { result.frame ≡ frame }
+        ensures whole { Whole result.frame (S.cell result.rows) }
+    {
+        let rows = S::all(&frame);
+        Stored {
+            frame,
+            rows,
+            rule: PhantomData,
+        }
+    }
+
     // The partners of a form in label `j`, where its own label does not come after `j`.
     fn forward(&self, w: Wording, j: u8) -> u16
         requires { w.label ≤ j }
@@ -55,13 +69,7 @@ impl<R: Tested, S: Store<R>> Book for Stored<R, S> {
     ghost holds_fewer = { S.holds_fewer };
 
     fn new() -> Self {
-        let frame = Frame::none();
-        let rows = S::all(&frame);
-        Stored {
-            frame,
-            rows,
-            rule: PhantomData,
-        }
+        Self::of(Frame::none())
     }
 
     fn empty(&mut self) {
@@ -70,12 +78,7 @@ impl<R: Tested, S: Store<R>> Book for Stored<R, S> {
 
     fn open(&mut self, sizes: &[u8]) -> Result<(), Refusal> {
         let frame = Frame::try_from(sizes)?;
-        let rows = S::all(&frame);
-        *self = Stored {
-            frame,
-            rows,
-            rule: PhantomData,
-        };
+        *self = Self::of(frame);
         Ok(())
     }
 

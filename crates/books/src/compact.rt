@@ -1,25 +1,29 @@
 // The rows of the compact book: it serves rule 1 with two numbers a row.
-ghost use Rattle.std.specs.Prelude.{◌≡◌, ℕ, ◌<◌, ◌≤◌, ◌≢◌, ◌↔◌, Bool, true, T, Decides, IsTrue};
+ghost use Rattle.std.specs.Prelude.{◌≡◌, ℕ, ◌<◌, Bool, T, Decides};
 ghost use Rattle.rules.specs.Limits.{Within, max_forms};
 ghost use Rattle.rules.specs.Tables.{in_row};
 ghost use Rattle.books.specs.declared.label_pair.LabelPair.{LabelPair};
-ghost use Rattle.books.specs.Frames.{frame_live, frame_cut, all_rows};
-ghost use Rattle.books.specs.Compact.{Tailed, Tails, RowHeld, Exact, pairs, uncut, is_pair, Mending};
+ghost use Rattle.books.specs.Frames.{all_rows, book_view};
+ghost use Rattle.books.specs.Compact.{Tailed, Tails, RowHeld, Exact, KeptFor, pairs, uncut, is_pair, Mending};
+ghost use Rattle.books.specs.Answers.{AnswersPairs};
 ghost use Rattle.books.specs.Tails.{tails_closed, tails_common, tails_fewer};
 
 use crate::compact_row::CompactRow;
-use crate::compact_rows::CompactRows;
 use crate::forms::{ALL_FORMS, NO_FORM, both, without};
 use crate::frame::Frame;
 use crate::framing::ROWS;
 use crate::label_pair::LabelPair;
-use crate::rewriting::rewrite;
+use crate::rows::Rows;
 use crate::store::Store;
 use crate::stored::Stored;
 use crate::wording::Wording;
 use rules::Greatest;
+use rules::limits::MAX_FORMS;
 
-// The book for rule 1 that keeps two numbers a row.
+// The rows of all tables, two bytes each.
+type CompactRows = Rows<CompactRow>;
+
+/// The book for rule 1 that keeps two numbers a row.
 pub type CompactBook = Stored<Greatest, CompactRows>;
 
 // Rows that cut nothing off.
@@ -32,7 +36,9 @@ fn tailed(row: u16, live: u16) -> bool
     without(CompactRow::of(row).among(live), row) == 0
 }
 
-// Whether the row of a form of the first label, cut to the live forms of the second, can be held.
+// Whether the row of a form of the first label, cut to the live forms of the second, can be held. The form is the number
+// of a loop; a type for forms from 1 to 16 would be made and taken apart in each turn. Frame and labels are two arguments
+// here and in `mend` for the reason that stands at `Store::can_hold`.
 fn row_held(frame: &Frame, labels: LabelPair, form: u8, rows: &[u16; 16]) -> bool
     requires { Within max_forms form }
     ensures { Decides result (RowHeld frame.now labels.first labels.second rows.now form) }
@@ -47,10 +53,10 @@ fn row_held(frame: &Frame, labels: LabelPair, form: u8, rows: &[u16; 16]) -> boo
 
 impl CompactRows {
     // Rows with every form, before any is mended.
-    fn every() -> CompactRows
+    fn every() -> Self
         ensures { (n b : ℕ) → n < all_rows → Within max_forms b → T (pairs result n b) }
     {
-        CompactRows {
+        Rows {
             rows: [CompactRow::of(ALL_FORMS); ROWS],
         }
     }
@@ -59,7 +65,7 @@ impl CompactRows {
     fn mend(&mut self, frame: &Frame, labels: LabelPair, given: &[u16; 16])
         ensures { Mending frame.now given.now self.old self.new (is_pair labels.first labels.second) }
     {
-        rewrite(&mut self.rows, labels, |form, row| {
+        self.rewrite(labels, |form, row| {
             row.mended(frame, labels, form, given[usize::from(form) - 1])
         });
     }
@@ -67,8 +73,7 @@ impl CompactRows {
     // Mends those tables that a test picks.
     fn mend_where<F: Fn(LabelPair) -> bool>(&mut self, frame: &Frame, picks: F)
         requires { (labels : LabelPair) → F.pre picks labels }
-        ensures { (mended : ℕ → ℕ → Bool) → ((labels : LabelPair) (r : Bool) → F.post picks labels r → mended labels.first labels.second ≡ r)
-            → Mending frame.now uncut self.old self.new mended }
+        ensures { (mended : ℕ → ℕ → Bool) → AnswersPairs (F.post picks) mended → Mending frame.now uncut self.old self.new mended }
     {
         for second in 2..=frame.count {
             for first in 1..second {
@@ -78,6 +83,21 @@ impl CompactRows {
                 }
             }
         }
+    }
+}
+
+impl CompactBook {
+    /// The two numbers that are kept for a wording towards a label after its own: the first form of that label that is
+    /// permitted with it, and the second, each 17 where there is none.
+    pub fn kept(&self, w: Wording, j: u8) -> Option<(u8, u8)>
+        ensures { KeptFor (book_view self.now.frame (pairs self.now.rows)) w.label w.form j result }
+    {
+        let labels = self.frame.pair(w.label, j)?;
+        if !(1..=MAX_FORMS).contains(&w.form) {
+            return None;
+        }
+        let row = self.rows.rows[labels.row(w.form)];
+        Some((row.first, row.second))
     }
 }
 
@@ -96,7 +116,7 @@ impl Store<Greatest> for CompactRows {
     ghost holds_fewer = { tails_fewer };
 
     fn all(frame: &Frame) -> Self {
-        let mut rows = CompactRows::every();
+        let mut rows = Self::every();
         rows.mend_where(frame, |_| true);
         rows
     }

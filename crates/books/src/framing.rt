@@ -1,10 +1,8 @@
-// The calls of labels and of a frame.
-ghost use Rattle.std.specs.Prelude.{◌≡◌, ℕ, ◌+◌, ◌≤◌, ◌↔◌, not, ◌&&◌, ◌==◌, MatchOption, MatchResult, Decides, IsTrue, EachIndex, length, slice_index};
+// Where rows stand, and the calls of labels, of two labels and of a frame.
+ghost use Rattle.std.specs.Prelude.{◌≡◌, ℕ, ◌+◌, ◌≤◌, ◌↔◌, not, ◌&&◌, ◌==◌, Decides, IsTrue, EachIndex, slice_index};
 ghost use Rattle.rules.specs.Limits.{Within, max_forms};
 ghost use Rattle.rules.specs.Tables.{in_row};
-ghost use Rattle.books.specs.Changes.{Ordered};
-ghost use Rattle.books.specs.Outcomes.{StrikeRefused};
-ghost use Rattle.books.specs.Frames.{within, frame_size, label_at, frame_live, FrameFrom, FrameStruck, table_at, row_at, all_rows};
+ghost use Rattle.books.specs.Frames.{within, frame_size, frame_live, LabelOf, PairOf, FrameFrom, StruckFrom, table_at, row_at, all_rows};
 
 use crate::forms::{up_to, with_form, without};
 use crate::frame::Frame;
@@ -14,7 +12,8 @@ use crate::wording::Wording;
 use rules::limits::{MAX_FORMS, MAX_LABELS};
 use rules::{Refusal, has_form};
 
-// The rows of all tables: sixteen for each two of sixteen labels.
+// The rows of all tables: sixteen for each two of sixteen labels. Without a heap their array has a fixed size; it is flat, so
+// that the place of a row is one number.
 pub(crate) const ROWS: usize = 1920;
 
 impl Label {
@@ -54,7 +53,8 @@ impl LabelPair {
         ((second - 1) * (second - 2) / 2 + (first - 1)) * 16
     }
 
-    // Where the row of a form of the first label stands.
+    // Where the row of a form of the first label stands. Each caller has the form at hand as one that a label can have; a type
+    // for that would be made and taken apart at each call.
     pub(crate) fn row(self, form: u8) -> usize
         requires { Within max_forms form }
         ensures place { result ≡ row_at self.first self.second form }
@@ -82,6 +82,7 @@ impl TryFrom<&[u8]> for Frame {
             return Err(Refusal::OutsideLimits);
         }
         let mut labels = [Label::of(0); 16];
+        // With `iter_mut` under `zip`, or `array::from_fn`, the check does not follow what is written.
         for (k, size) in sizes.iter().enumerate() {
             labels[k] = Label::of(*size);
         }
@@ -110,7 +111,7 @@ impl Frame {
 
     // The label, if the panel has it.
     fn label(&self, i: u8) -> Option<Label>
-        ensures { MatchOption result (Within self.now.count i → ⊥) (λ label. Within self.now.count i × (label ≡ label_at self.now i)) }
+        ensures { LabelOf self.now i result }
     {
         if !self.has_label(i) {
             return None;
@@ -120,7 +121,7 @@ impl Frame {
 
     // The two labels, if a table may be given for them.
     pub(crate) fn pair(&self, i: u8, j: u8) -> Option<LabelPair>
-        ensures { MatchOption result (Ordered self.now.count i j → ⊥) (λ labels. Ordered self.now.count i j × ((labels.first ≡ i) × (labels.second ≡ j))) }
+        ensures { PairOf self.now i j result }
     {
         if 1 <= i && i < j && j <= self.count {
             Some(LabelPair {
@@ -153,9 +154,7 @@ impl Frame {
 
     // The frame with a form not live, if the panel has that form.
     pub(crate) fn struck(&self, w: Wording) -> Result<Frame, Refusal>
-        ensures { MatchResult result
-            (λ frame. Within self.now.count w.label × (Within (frame_size self.now w.label) w.form × FrameStruck self.now w.label w.form frame))
-            (StrikeRefused self.now.count (frame_size self.now) w.label w.form) }
+        ensures { StruckFrom self.now w.label w.form result }
     {
         let label = self.label(w.label).ok_or(Refusal::NoLabel)?;
         if !(1..=label.size).contains(&w.form) {

@@ -5,14 +5,16 @@ ghost use Rattle.books.specs.Full.{bits};
 use crate::forms::{ALL_FORMS, both};
 use crate::frame::Frame;
 use crate::framing::ROWS;
-use crate::full_rows::FullRows;
 use crate::label_pair::LabelPair;
-use crate::rewriting::rewrite;
+use crate::rows::Rows;
 use crate::store::Store;
 use crate::stored::Stored;
 use rules::{Rule, Tested};
 
-// The book for the rule `R` that holds every table.
+// The rows of all tables, a bit for each form. Bits of forms that are not live say nothing.
+type FullRows = Rows<u16>;
+
+/// The book for the rule `R` that holds every table.
 pub type FullBook<R> = Stored<R, FullRows>;
 
 impl<R: Tested> Store<R> for FullRows {
@@ -30,7 +32,7 @@ impl<R: Tested> Store<R> for FullRows {
     ghost holds_fewer = { Prim.search rules };
 
     fn all(_frame: &Frame) -> Self {
-        FullRows {
+        Rows {
             rows: [ALL_FORMS; ROWS],
         }
     }
@@ -46,10 +48,6 @@ impl<R: Tested> Store<R> for FullRows {
     }
 
     fn narrow(&mut self, _frame: &Frame, labels: LabelPair, rows: &[u16; 16]) {
-        rewrite(
-            &mut self.rows,
-            labels,
-            |form, row| both(row, rows[usize::from(form) - 1]),
-        );
+        self.rewrite(labels, |form, row| both(row, rows[usize::from(form) - 1]));
     }
 }

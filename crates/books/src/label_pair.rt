@@ -1,7 +1,7 @@
 ghost use Rattle.rules.specs.Limits.{max_labels};
 ghost use Rattle.books.specs.Changes.{Ordered};
 
-// Two labels that a table is for, the lower one first.
+/// Two labels that a table is for, the lower one first.
 #[derive(Clone, Copy)]
 pub struct LabelPair {
     pub(crate) first: u8,

@@ -1,6 +1,6 @@
 use std::fmt;
 
-// A form of a label. Both count from 1, and any two bytes may be asked about.
+/// A form of a label. Both count from 1, and any two bytes may be asked about.
 #[derive(Clone, Copy, PartialEq, Eq, Debug)]
 pub struct Wording {
     pub label: u8,

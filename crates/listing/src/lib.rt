@@ -1,6 +1,6 @@
-// Rows in print, for the programs: the forms of each.
+// Rows and sizes in print, for the programs.
 #![tactic(auto)]
 
 mod row_list;
 
-pub use row_list::{FormList, RowList};
+pub use row_list::{FormList, RowList, SizeList};

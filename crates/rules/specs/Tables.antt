@@ -15,6 +15,10 @@ in_row row b = nat_le 1 b && row / 2 ^ (b - 1) % 2 == 1
 unfoldable pub permits : List ℕ → Table
 permits rows a b = nat_le 1 a && in_row (slice_index rows (a - 1)) b
 
+-- the row has no form after n
+abbrev pub EndsAt : ℕ → ℕ → Type 0
+EndsAt n row = (b : ℕ) → T (in_row row b) → b ≤ n
+
 -- the rows are a table, where the second label has so many forms
 pub record IsTable (rows : List ℕ) (size : ℕ) : Type 0 where
   pub height : Within max_forms (length rows)

@@ -17,7 +17,7 @@ mod witness;
 
 pub use lent::Lent;
 pub use pair::{Pair, voted_pair};
-pub use reading::{ROW_BITS, has_form, has_pair};
+pub use reading::{ROW_BITS, all_end_at, has_form, has_pair};
 pub use refusal::{Refusal, number_of};
 pub use rule::Rule;
 pub use search::find_witness;

@@ -2,19 +2,19 @@
 ghost use Rattle.std.specs.Prelude.{◌≡◌};
 ghost use Rattle.rules.specs.Limits.{max_labels, max_forms, max_tables, max_rule};
 
-// The most labels that a panel has.
+/// The most labels that a panel has.
 pub const MAX_LABELS: u8 = 16;
 
-// The most forms that a label has.
+/// The most forms that a label has.
 pub const MAX_FORMS: u8 = 16;
 
-// The most tables that a sheet has.
+/// The most tables that a sheet has.
 pub const MAX_TABLES: u8 = 80;
 
-// The highest number of a rule; the lowest is 1.
+/// The highest number of a rule; the lowest is 1.
 pub const MAX_RULE: u16 = 999;
 
-// The four limits together.
+/// The four limits together.
 #[derive(Clone, Copy)]
 pub struct Limits {
     pub labels: u8,
@@ -23,7 +23,7 @@ pub struct Limits {
     pub rule: u16,
 }
 
-// The limits as the product keeps them. This ties the constants to the definitions that clauses cite.
+/// The limits as the product keeps them. This ties the constants to the definitions that clauses cite.
 pub fn in_force() -> Limits
     ensures labels { result.labels ≡ max_labels }
     ensures forms { result.forms ≡ max_forms }

@@ -1,6 +1,6 @@
 // What rows permit, and whether they are a table.
-ghost use Rattle.std.specs.Prelude.{◌≡◌, ℕ, ◌/◌, ◌^◌, ◌≤◌, ◌↔◌, T, None, Some, MatchOption, Decides, IsTrue, EachIndex, slice_index};
-ghost use Rattle.rules.specs.Tables.{in_row, permits, IsTable};
+ghost use Rattle.std.specs.Prelude.{◌≡◌, ◌/◌, ◌^◌, ◌≤◌, ◌↔◌, None, Some, MatchOption, Decides, IsTrue, EachIndex, slice_index};
+ghost use Rattle.rules.specs.Tables.{in_row, permits, EndsAt, IsTable};
 ghost use Rattle.rules.specs.Lending.{pairs_of, Has, Checked};
 ghost use Rattle.rules.specs.declared.pair.Pair.{Pair};
 
@@ -10,10 +10,10 @@ use crate::pair::Pair;
 use crate::refusal::Refusal;
 use crate::table::Table;
 
-// The bits of a row. They stay sixteen, whatever the limit on forms.
+/// The bits of a row. They stay sixteen, whatever the limit on forms.
 pub const ROW_BITS: u8 = 16;
 
-// Whether a row has form `b` of the second label.
+/// Whether a row has form `b` of the second label.
 pub fn has_form(row: u16, b: u8) -> bool
     ensures { result ≡ in_row row b }
 {
@@ -23,7 +23,7 @@ pub fn has_form(row: u16, b: u8) -> bool
     (row >> (b - 1)) & 1 == 1
 }
 
-// Whether the rows permit the pair.
+/// Whether the rows permit the pair.
 pub fn has_pair(rows: &[u16], pair: Pair) -> bool
     ensures { result ≡ permits rows.now pair.0 pair.1 }
 {
@@ -34,22 +34,29 @@ pub fn has_pair(rows: &[u16], pair: Pair) -> bool
     has_form(rows[a as usize - 1], b)
 }
 
-// Whether no row has a form past `size`.
-fn all_within(rows: &[u16], size: u8) -> bool
-    requires { size ≤ 16 }
-    ensures { IsTrue result ↔ EachIndex rows.now (λ k. slice_index rows.now k / 2 ^ size ≡ 0) }
+// Whether the row has no form after `n`.
+fn ends_at(row: u16, n: u8) -> bool
+    ensures { IsTrue result ↔ EndsAt n row }
 {
-    // Sixteen bits cannot be shifted by sixteen.
-    rows.iter().all(|row| u32::from(*row) >> size == 0)
+    // Sixteen bits cannot be shifted by more than sixteen.
+    u32::from(row) >> n.min(ROW_BITS) == 0
+}
+
+/// Whether no row has a form after `n`.
+pub fn all_end_at(rows: &[u16], n: u8) -> bool
+    ensures { IsTrue result ↔ EachIndex rows.now (λ k. EndsAt n (slice_index rows.now k)) }
+{
+    rows.iter().all(|row| ends_at(*row, n))
 }
 
 impl Lent<'_> {
+    /// Whether the rows are a table for a second label of that size.
     pub fn is_table(self) -> bool
         ensures { Decides result (IsTable self.entry.rows.now self.entry.size) }
     {
-        (1..=MAX_FORMS as usize).contains(&self.rows.len())
+        (1..=usize::from(MAX_FORMS)).contains(&self.rows.len())
             && (1..=MAX_FORMS).contains(&self.size)
-            && all_within(self.rows, self.size)
+            && all_end_at(self.rows, self.size)
     }
 }
 
@@ -68,14 +75,14 @@ impl<'a> TryFrom<Lent<'a>> for Table<'a> {
 }
 
 impl Table<'_> {
-    // Whether the pair is one of the table.
+    /// Whether the pair is one of the table.
     pub fn has(&self, pair: Pair) -> bool
         ensures { result ≡ pairs_of self.now pair.0 pair.1 }
     {
         has_pair(self.lent.rows, pair)
     }
 
-    // The first answer to a pair of the table, row by row and form by form.
+    // An answer to a pair of the table, if any has one. They are asked row by row and form by form.
     pub(crate) fn find_map<X, F: Fn(Pair) -> Option<X>>(&self, answer: F) -> Option<X>
         requires { (p : Pair) → Has (pairs_of self.now) p → F.pre answer p }
         ensures { MatchOption result

@@ -9,7 +9,8 @@ use crate::rule::Rule;
 use crate::table::Table;
 use crate::witness::Witness;
 
-// These three pairs of the table as a witness, if their vote is none of it.
+// These three pairs of the table as a witness, if their vote is none of it. That each is of the table is asked here and in the
+// closures below: it was tried without, and the check does not carry it from one search to the next.
 fn witness_of<R: Rule>(table: &Table, one: Pair, two: Pair, three: Pair) -> Option<Witness>
     requires one { Has (pairs_of table.now) one }
     requires two { Has (pairs_of table.now) two }
@@ -28,7 +29,8 @@ fn witness_of<R: Rule>(table: &Table, one: Pair, two: Pair, three: Pair) -> Opti
     })
 }
 
-// The first witness against the table: there is one unless it is closed. Every three pairs are tried, in every order.
+/// A witness against the table: there is one unless it is closed. Every three pairs are tried, in every order.
+// The closures have clauses: without them the check does not carry what an inner search needs and finds to the outer one.
 pub fn find_witness<R: Rule>(table: &Table) -> Option<Witness>
     ensures { MatchOption result (Closed R.voted (pairs_of table.now)) (Breaks R.voted (pairs_of table.now)) }
 {

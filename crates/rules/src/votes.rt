@@ -5,11 +5,11 @@ ghost use Rattle.std.proofs.Common.{rules};
 use crate::rule::Rule;
 use crate::tested::Tested;
 
-// Rule 1: of three different forms the greatest.
+/// Rule 1: of three different forms the greatest.
 #[derive(Clone, Copy)]
 pub struct Greatest;
 
-// Rule 2: of three different forms the middle one.
+/// Rule 2: of three different forms the middle one.
 #[derive(Clone, Copy)]
 pub struct Middle;
 

@@ -1,6 +1,6 @@
 use crate::pair::Pair;
 
-// Three pairs of a table, and the pair they vote for, which is none of the table.
+/// Three pairs of a table, and the pair they vote for, which is none of the table.
 #[derive(Clone, Copy, PartialEq, Eq, Debug)]
 pub struct Witness {
     pub one: Pair,

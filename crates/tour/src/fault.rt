@@ -4,7 +4,7 @@ ghost use Rattle.tour.specs.Judging.{refusal_of};
 use rules::{Refusal, Witness};
 use std::fmt;
 
-// Why a rule does not take lent rows.
+/// Why a rule does not take lent rows.
 #[derive(Clone, Copy, PartialEq, Eq, Debug)]
 pub enum Fault {
     NoTable,

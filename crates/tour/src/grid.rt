@@ -3,8 +3,8 @@ ghost use Rattle.tour.specs.Drawing.{LastColumn};
 use rules::{Lent, ROW_BITS, has_form};
 use std::fmt;
 
-// Lent rows as a grid: lines are forms of the first label, columns forms of the second. A bar cuts off what lies past the
-// size.
+/// Lent rows as a grid: lines are forms of the first label, columns forms of the second. A bar cuts off what lies past the
+/// size.
 #[derive(Clone, Copy)]
 pub struct Grid<'a>(pub Lent<'a>);
 

@@ -3,7 +3,8 @@ ghost use Rattle.tour.specs.Judging.{Judged};
 use crate::fault::Fault;
 use rules::{Lent, Table, Tested, find_witness};
 
-// Judges the rows by the rule's own test, and looks for a witness where it says no to a table.
+/// Judges the rows by the rule's own test, which may be another than the search, and looks for a witness where it says no to
+/// a table.
 pub fn judge<R: Tested>(lent: Lent) -> Result<(), Fault>
     ensures { Judged R.Rule.voted lent.entry.rows.now lent.entry.size result }
 {

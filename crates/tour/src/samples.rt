@@ -1,6 +1,6 @@
 use rules::Lent;
 
-// What makers bring: the rows that the tour draws and judges.
+/// What makers bring: the rows that the tour draws and judges.
 pub const SAMPLES: [Lent<'static>; 9] = [
     Lent {
         rows: &[0b0100, 0b1000, 0b1001, 0b1110],

@@ -2,7 +2,7 @@ use crate::fault::Fault;
 use rules::{Refusal, number_of};
 use std::fmt;
 
-// What the rule of this number says of some rows.
+/// What the rule of this number says of some rows.
 #[derive(Clone, Copy)]
 pub struct Saying {
     pub rule: u16,

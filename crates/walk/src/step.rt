@@ -1,10 +1,11 @@
 use crate::samples::{WITH_PARTNERS, WITHOUT_PARTNER};
 use books::Wording;
-use listing::{FormList, RowList};
+use listing::{FormList, RowList, SizeList};
 use rules::{Refusal, number_of};
 use std::fmt;
 
-// One thing to do with a book, or to ask of it.
+/// One thing to do with a book, or to ask of it. It is an enum and not a closure, since it is also printed, and is taken with
+/// books of two types.
 #[derive(Clone, Copy)]
 pub enum Step {
     Open(&'static [u8]),
@@ -18,27 +19,13 @@ pub enum Step {
     Narrow(u8, u8, &'static [u16]),
 }
 
-// What a book answers to a step: how a call ended, a count, yes or no, or the forms of a row.
+/// What a book answers to a step: how a call ended, a count, yes or no, or the forms of a row.
 #[derive(Clone, Copy)]
 pub enum Answer {
     Outcome(Result<(), Refusal>),
     Count(u8),
     Yes(bool),
     Forms(u16),
-}
-
-// Sizes with commas between them, as in `4,2`.
-#[derive(Clone, Copy)]
-struct SizeList<'a>(&'a [u8]);
-
-impl fmt::Display for SizeList<'_> {
-    fn fmt<W: fmt::Write>(&self, f: &mut fmt::Formatter<W>) -> fmt::Result {
-        for (k, size) in self.0.iter().enumerate() {
-            let comma = if k > 0 { "," } else { "" };
-            write!(f, "{comma}{size}")?;
-        }
-        Ok(())
-    }
 }
 
 impl fmt::Display for Step {
@@ -73,7 +60,7 @@ fn at(label: u8, form: u8) -> Wording {
     Wording { label, form }
 }
 
-// What the walk does with both books.
+/// What the walk does with both books. (A constant's value cannot call a function, as `at`.)
 pub fn steps() -> [Step; 26] {
     [
         Step::Labels,

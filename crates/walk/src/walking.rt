@@ -9,13 +9,14 @@ fn sixteen(rows: &[u16]) -> [u16; 16]
     ensures { Sixteen rows.now result }
 {
     let mut all = [0u16; 16];
+    // With `zip`, or `array::from_fn`, the check does not follow what is written.
     for (k, row) in all.iter_mut().enumerate() {
         *row = rows.get(k).copied().unwrap_or(0);
     }
     all
 }
 
-// A step is an enum and not a closure, since it is also printed, and is taken with books of two types.
+/// Takes the step with the book.
 pub fn walk<B: Book>(book: &mut B, step: Step) -> Answer
     ensures { Walked B.view B.holds book.old book.new step result }
 {

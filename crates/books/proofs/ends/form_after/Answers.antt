@@ -1,4 +1,4 @@
-use Rattle.std.proofs.Common.{◌≡◌, ℕ, ◌+◌, ◌<◌, ◌≤◌, true, false, MatchOption, Option, None, Some, rules, tests, sym, subst, arith}
+use Rattle.std.proofs.Common.{◌≡◌, ℕ, ◌+◌, ◌<◌, ◌≤◌, true, false, MatchOption, Option, None, Some, rules, tests, arith}
 use Rattle.std.proofs.lemmas.Iterator.{first_from_Range}
 use Rattle.std.specs.Prelude.{unwrap_or}
 use Rattle.rules.specs.Tables.{in_row}
@@ -20,5 +20,5 @@ next_of row from (Some i) some = record {
 pub returns : goal.returns
 returns c =
     let row = in_row c.args.row in
-    subst (Next row c.args.from) (sym c.unwrap_or.ensures) (next_of row c.args.from c.find.result
-    (first_from_Range _ _ _ c.find.result (λ k. row k ≡ true) (λ k. row k ≡ false) c.find.ensures.ran (λ x q k. search (rules, tests)) (λ x q k. search (rules, tests))))
+    next_of row c.args.from c.find.result
+    (first_from_Range _ _ _ c.find.result (λ k. row k ≡ true) (λ k. row k ≡ false) c.find.ensures.ran (λ x q k. search (rules, tests)) (λ x q k. search (rules, tests)))

@@ -1,10 +1,10 @@
-use Rattle.std.proofs.Common.{◌≡◌, Err, rules, refl, sym, arith}
+use Rattle.std.proofs.Common.{◌≡◌, Err, rules, refl, sym}
 use mathlib.Core.Logic.{∥∥₁_map}
 use Rattle.std.proofs.lemmas.Bool.{false≢true}
 use Rattle.rules.specs.declared.refusal.Refusal.TheVariants.{NoLabel}
+use Rattle.rules.specs.Tables.{permits}
 use Rattle.books.specs.Changes.{Ordered}
 use Rattle.books.specs.Outcomes.{narrow_done, narrow_no_label, narrow_no_table, narrow_not_held}
-use Rattle.books.specs.Labels.{size_small}
 use Rattle.books.specs.Linked.{narrowed}
 use Rattle.books.proofs.booking.StoredBook.narrow.Goals as goal
 
@@ -13,12 +13,6 @@ returns-in_err-labels g c =
     let refused : c.from_residual.result ≡ Err NoLabel = search rules in
     let none : Ordered c.args.self.now.frame.count c.args.i c.args.j → ⊥ = search rules in
     rw refused (narrow_no_label none refl)
-
-pub fits_sizes-requires-clause-height : goal.fits_sizes-requires-clause-height
-fits_sizes-requires-clause-height g c = omega (arith, c.size.ensures, size_small c.args.self.now.frame c.args.i)
-
-pub fits_sizes-requires-clause-width : goal.fits_sizes-requires-clause-width
-fits_sizes-requires-clause-width g c = omega (arith, c.size-2.ensures, size_small c.args.self.now.frame c.args.j)
 
 pub returns-then-not-fits_sizes : goal.returns-then-not-fits_sizes
 returns-then-not-fits_sizes g c =
@@ -44,5 +38,5 @@ returns g c =
     let second : c.in_ok-labels.labels.second ≡ c.args.j = search rules in
     narrow_done o (rw (sym c.size.ensures, sym c.size-2.ensures) (c.if-not-fits_sizes.ensures.0 refl))
     (rw (sym first, sym second) (c.if-not-can_hold.ensures.0 refl))
-    (narrowed s.frame c.args.i c.args.j c.args.rows (g.S.Store.cell s.rows) (g.S.Store.cell c.narrow.new.self) o
+    (narrowed s.frame c.args.i c.args.j (permits c.args.rows) (g.S.Store.cell s.rows) (g.S.Store.cell c.narrow.new.self) o
     (rw (sym first, sym second) c.narrow.ensures.narrowed))

@@ -1,4 +1,4 @@
-use Rattle.std.proofs.Common.{◌≡◌, Err, rules, refl}
+use Rattle.std.proofs.Common.{◌≡◌, Err, rules, refl, sym, subst}
 use Rattle.rules.specs.declared.refusal.Refusal.TheVariants.{OutsideLimits}
 use Rattle.books.specs.Changes.{Sizes}
 use Rattle.books.specs.Frames.{FrameOpened}
@@ -14,6 +14,6 @@ returns-in_err-frame g c =
 
 pub returns : goal.returns
 returns g c =
-    let f = c.in_ok-frame.frame in
-    let o : Sizes c.args.sizes.now × FrameOpened c.args.sizes.now f = search rules in
-    open_done o.0 (opened c.args.sizes.now f (g.S.Store.cell c.all-rows.result) o.1 c.all-rows.ensures.whole)
+    let s = c.of.result in
+    let o : Sizes c.args.sizes.now × FrameOpened c.args.sizes.now c.in_ok-frame.frame = search rules in
+    open_done o.0 (opened c.args.sizes.now s.frame (g.S.Store.cell s.rows) (subst (FrameOpened c.args.sizes.now) (sym c.of.ensures.frame) o.1) c.of.ensures.whole)

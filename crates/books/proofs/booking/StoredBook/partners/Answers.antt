@@ -1,7 +1,7 @@
 use Rattle.std.proofs.Common.{rules}
 use Rattle.books.specs.Frames.{book_view}
 use Rattle.books.specs.Linked.{orderly}
-use Rattle.books.proofs.Partners.{partner_range, row_of}
+use Rattle.books.proofs.Partners.{partner_range}
 use Rattle.books.proofs.booking.StoredBook.partners.Goals as goal
 
 pub returns-else-w-j : goal.returns-else-w-j
@@ -10,6 +10,4 @@ returns-else-w-j g c =
     let cell = g.S.Store.cell s.rows in
     let v = book_view s.frame cell in
     let w = c.args.w in
-    row_of (v.permitted w.label w.form c.args.j) c.forms_where.result
-    (partner_range v (orderly s.frame cell) w.label w.form c.args.j)
-    c.forms_where.ensures.outside (λ b form. search (rules, c.forms_where.ensures.inside b form))
+    c.forms_where.ensures (v.permitted w.label w.form c.args.j) (λ b r post. search rules) (partner_range v (orderly s.frame cell) w.label w.form c.args.j)

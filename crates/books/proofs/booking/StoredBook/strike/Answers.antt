@@ -1,8 +1,8 @@
 use Rattle.std.proofs.Common.{◌≡◌, Err, rules}
 use mathlib.Core.Logic.{∥∥₁_map}
 use Rattle.rules.specs.Limits.{Within}
-use Rattle.books.specs.Frames.{book_view, frame_size, FrameStruck}
-use Rattle.books.specs.Outcomes.{strike_done, StrikeRefused}
+use Rattle.books.specs.Frames.{book_view, frame_size, FrameStruck, StrikeRefused}
+use Rattle.books.specs.Outcomes.{strike_done}
 use Rattle.books.specs.Linked.{struck}
 use Rattle.books.proofs.Refused.{strike_refused}
 use Rattle.books.proofs.booking.StoredBook.strike.Goals as goal

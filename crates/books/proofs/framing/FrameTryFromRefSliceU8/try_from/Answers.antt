@@ -7,7 +7,7 @@ use Rattle.books.proofs.framing.FrameTryFromRefSliceU8.try_from.Goals as goal
 
 pub returns : goal.returns
 returns c =
-    let sizes : Sizes c.args.sizes.now = record { few = omega (arith, c.if-sizes-from.false, c.from.ensures); each = search rules } in (
+    let sizes : Sizes c.args.sizes.now = record { few = search rules; each = search rules } in (
       sizes,
       record {
         labels = refl;

@@ -12,7 +12,7 @@ returns-clause-narrowed g c =
     let labels = c.args.labels in
     let given = c.args.rows.now in
     let old = c.args.self.now.rows in
-    let new = c.rewrite.new.rows in
+    let new = c.rewrite.new.self.rows in
     record {
       inside = λ x y lx ly.
           let form = live_form f labels.first x lx in

@@ -1,5 +1,5 @@
 use Rattle.std.proofs.Common.{◌≡◌, ℕ, ◌+◌, ◌<◌, ◌≤◌, length, slice_index_or}
-use Rattle.books.proofs.rewriting.rewrite.Given as goal
+use Rattle.books.proofs.rows.Rows.rewrite.Given as goal
 
 abbrev pub invariant-loop-k : goal.invariant-loop-k
 invariant-loop-k g l = (length l.row-items ≡ 16)

@@ -2,13 +2,12 @@ use Rattle.std.proofs.Common.{◌≡◌, ℕ, ◌+◌, ◌<◌, ◌≤◌, Bool,
 use Rattle.std.proofs.lemmas.Bool.{and_parts, eqb-true, lt-ltb, false≢true}
 use Rattle.std.proofs.lemmas.Bool.Decides.{nat_tests}
 use Rattle.rules.proofs.Truth.{is_true, passes}
-use Rattle.books.specs.declared.compact_rows.CompactRows.{CompactRows}
 use Rattle.books.specs.Bools.{and_true, or_false}
-use Rattle.books.specs.Compact.{is_pair, uncut, Mending}
+use Rattle.books.specs.Compact.{CompactRows, is_pair, uncut, Mending}
 use Rattle.books.proofs.Mended.{mending_as, mending_join}
-use Rattle.books.proofs.compact_rows.CompactRows.mend_where.Invariants.{reached}
-use Rattle.books.proofs.compact_rows.CompactRows.mend_where.Goals as goal
-use Rattle.books.proofs.compact_rows.CompactRows.mend_where.Goals.{then-picks, else-picks, else-loop-second-test, then-loop-second-test+else-loop-first-test+else-second-second-end}
+use Rattle.books.proofs.compact.CompactRows.mend_where.Invariants.{reached}
+use Rattle.books.proofs.compact.CompactRows.mend_where.Goals as goal
+use Rattle.books.proofs.compact.CompactRows.mend_where.Goals.{then-picks, else-picks, else-loop-second-test, then-loop-second-test+else-loop-first-test+else-second-second-end}
 
 -- one table further
 further : (first second p q : ℕ) → reached (first + 1) second p q ≡ (reached first second p q || is_pair first second p q)
