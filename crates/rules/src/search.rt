@@ -9,13 +9,11 @@ use crate::rule::Rule;
 use crate::table::Table;
 use crate::witness::Witness;
 
-// These three pairs of the table as a witness, if their vote is none of it. That each is of the table is asked here and in the
-// closures below: it was tried without, and the check does not carry it from one search to the next.
+// These three pairs as a witness, if their vote is none of the table.
 fn witness_of<R: Rule>(table: &Table, one: Pair, two: Pair, three: Pair) -> Option<Witness>
-    requires one { Has (pairs_of table.now) one }
-    requires two { Has (pairs_of table.now) two }
-    requires three { Has (pairs_of table.now) three }
-    ensures { MatchOption result (ClosedAfterThree R.voted (pairs_of table.now) one two three) (Breaks R.voted (pairs_of table.now)) }
+    ensures { MatchOption result
+        (ClosedAfterThree R.voted (pairs_of table.now) one two three)
+        (λ w. Has (pairs_of table.now) one → Has (pairs_of table.now) two → Has (pairs_of table.now) three → Breaks R.voted (pairs_of table.now) w) }
 {
     let vote = voted_pair::<R>(one, two, three);
     if table.has(vote) {
@@ -30,20 +28,21 @@ fn witness_of<R: Rule>(table: &Table, one: Pair, two: Pair, three: Pair) -> Opti
 }
 
 /// A witness against the table: there is one unless it is closed. Every three pairs are tried, in every order.
-// The closures have clauses: without them the check does not carry what an inner search needs and finds to the outer one.
+// The closures have clauses: without them the check does not carry what an inner search finds to the outer one.
 pub fn find_witness<R: Rule>(table: &Table) -> Option<Witness>
     ensures { MatchOption result (Closed R.voted (pairs_of table.now)) (Breaks R.voted (pairs_of table.now)) }
 {
     table.find_map(
         |one|
-            requires { Has (pairs_of table.now) one }
-            ensures { MatchOption result (ClosedAfterOne R.voted (pairs_of table.entry.now) one) (Breaks R.voted (pairs_of table.entry.now)) }
+            ensures { MatchOption result
+                (ClosedAfterOne R.voted (pairs_of table.entry.now) one)
+                (λ w. Has (pairs_of table.entry.now) one → Breaks R.voted (pairs_of table.entry.now) w) }
         {
             table.find_map(
                 |two|
-                    requires one { Has (pairs_of table.now) one }
-                    requires two { Has (pairs_of table.now) two }
-                    ensures { MatchOption result (ClosedAfterTwo R.voted (pairs_of table.entry.now) one two) (Breaks R.voted (pairs_of table.entry.now)) }
+                    ensures { MatchOption result
+                        (ClosedAfterTwo R.voted (pairs_of table.entry.now) one two)
+                        (λ w. Has (pairs_of table.entry.now) one → Has (pairs_of table.entry.now) two → Breaks R.voted (pairs_of table.entry.now) w) }
                 { table.find_map(|three| witness_of::<R>(table, one, two, three)) },
             )
         },
