@@ -100,14 +100,28 @@ in_row_below n b h l =
     in_row_at (2 ^ n - 1) b h ∙ eq-eqb ((2 ^ n - 1) / 2 ^ k % 2) 1 (ap (λ x. x % 2) q ∙ odd)
 
 -- so it has the first n forms and no others
-pub in_row_up_to : (n b : ℕ) → in_row (2 ^ n - 1) b ≡ (leb 1 b && leb b n)
-in_row_up_to n b =
+pub in_row_first_forms : (n b : ℕ) → in_row (2 ^ n - 1) b ≡ (leb 1 b && leb b n)
+in_row_first_forms n b =
     let pn : 0 < 2 ^ n = pow_pos n in
     ⊎_elim (λ z. in_row_zero (2 ^ n - 1) b (omega arith) ∙ sym (and_left _ _ (lt-leb 1 b z)))
     (λ z. ⊎_elim (λ past. in_row_past (2 ^ n - 1) b n (omega arith) past ∙ sym (and_right (leb 1 b) _ (lt-leb b n past)))
     (λ near. in_row_below n b z near ∙ sym (rw (le-leb 1 b z, le-leb b n near) refl))
     (cases_lt n b))
     (cases_lt b 1)
+
+-- the same of sixteen set bits, shifted until n are left
+pub in_row_up_to : (n b : ℕ) → Within 16 n → in_row (65535 / 2 ^ (16 - n)) b ≡ (leb 1 b && leb b n)
+in_row_up_to n b w =
+    let d = 16 - n in
+    let pd : 0 < 2 ^ d = pow_pos d in
+    let pn : 0 < 2 ^ n = pow_pos n in
+    let f : n + d ≡ 16 = omega arith in
+    let whole : 2 ^ n * 2 ^ d ≡ 65536 = sym (pow-add 2 n d) ∙ ap (λ x. 2 ^ x) f in
+    let up : 2 ^ n - 1 + 1 ≡ 2 ^ n = omega arith in
+    let parts : 2 ^ n * 2 ^ d ≡ (2 ^ n - 1) * 2 ^ d + 1 * 2 ^ d = ap (λ x. x * 2 ^ d) (sym up) ∙ add-mul (2 ^ n - 1) 1 (2 ^ d) in
+    let m : 65535 ≡ (2 ^ n - 1) * 2 ^ d + (2 ^ d - 1) = omega arith in
+    let is : 65535 / 2 ^ d ≡ 2 ^ n - 1 = ap (λ x. x / 2 ^ d) m ∙ shr_high (2 ^ n - 1) d (2 ^ d - 1) (omega arith) in
+    ap (λ x. in_row x b) is ∙ in_row_first_forms n b
 
 -- sixteen bits, all set
 pub in_row_all : (b : ℕ) → Within 16 b → in_row 65535 b ≡ true

@@ -7,3 +7,4 @@ pub mod Narrowed
 pub mod Partners
 pub mod Places
 pub mod Refused
+pub mod Slots

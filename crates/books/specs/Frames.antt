@@ -1,5 +1,5 @@
 -- The labels of a book with their sizes and live forms, and the view of a book whose rows stand by place. The two books of
--- this crate are defined by it; no contract of the interface cites this file.
+-- this crate are defined by it; of the contracts that callers see, that of `CompactBook::kept` alone cites this file.
 use Rattle.std.specs.Prelude.{◌≡◌, ℕ, ◌+◌, ◌-◌, ◌*◌, ◌/◌, ◌<◌, Bool, cond, not, ◌&&◌, T, List, length, ◌==◌, nat_le, nat_lt, slice_index, slice_index_or, MatchOption, MatchResult, Option, Result}
 use Rattle.rules.specs.Limits.{Within}
 use Rattle.rules.specs.Tables.{Table, in_row, permits}
@@ -62,11 +62,9 @@ pub data StrikeRefused (labels : ℕ) (size : ℕ → ℕ) (i a : ℕ) : Refusal
   lacks_label : (Within labels i → ⊥) → StrikeRefused labels size i a NoLabel
   lacks_form : Within labels i → (Within (size i) a → ⊥) → StrikeRefused labels size i a NoForm
 
--- the frame after a strike, or the refusal
-abbrev pub StruckFrom : Frame → ℕ → ℕ → Result Frame Refusal → Type 0
-StruckFrom f i a result = MatchResult result
-    (λ g. Within f.count i × (Within (frame_size f i) a × FrameStruck f i a g))
-    (StrikeRefused f.count (frame_size f) i a)
+-- the panel has form a of label i, or else the refusal of its strike
+abbrev pub StrikeJudged : Frame → ℕ → ℕ → Result (Unit {0}) Refusal → Type 0
+StrikeJudged f i a result = MatchResult result (λ done. Within f.count i × Within (frame_size f i) a) (StrikeRefused f.count (frame_size f) i a)
 
 -- how many rows the tables of all two labels have
 abbrev pub all_rows : ℕ

@@ -12,3 +12,4 @@ pub mod Linked
 pub mod Bools
 pub mod Labels
 pub mod Tails
+pub mod Books

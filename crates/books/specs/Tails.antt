@@ -1,4 +1,4 @@
--- The three laws of holding for the compact book.
+-- The laws of the compact book's store: the three of holding, and what it keeps without labels.
 use Rattle.std.specs.Prelude.{◌≡◌, ℕ, ◌<◌, ◌&&◌, T}
 use Rattle.std.proofs.Common.{subst, ⊎_elim, arith}
 use Rattle.std.proofs.lemmas.Bool.{and_parts, and_from, cases_order}
@@ -8,7 +8,8 @@ use Rattle.rules.specs.Tables.{Table}
 use Rattle.rules.proofs.Truth.{is_true, passes}
 use Rattle.books.specs.Views.{Forms}
 use Rattle.books.specs.Holding.{HoldsClosed, HoldsCommon, HoldsFewer, cut}
-use Rattle.books.specs.Compact.{Tails}
+use Rattle.books.specs.declared.frame.Frame.{Frame}
+use Rattle.books.specs.Compact.{Tails, CompactRows, Exact}
 
 top : (p q b : ℕ) → p < q → q < b → greatest p q b ≡ b
 top p q b h k = grind (arith, nat_tests)
@@ -50,3 +51,7 @@ tails_fewer L M L' M' t sl sm ht a la p q b tp tq h k mb =
     let x = cut_parts L' M' t a p tp in
     let y = cut_parts L' M' t a q tq in
     cut_from L' M' t a b (ht a (sl a la) p q b x.0 y.0 h k (sm b mb)) la mb
+
+-- there are no two labels whose rows would be kept
+pub exact_none : (f : Frame) (s : CompactRows) → f.count ≡ 0 → Exact f s
+exact_none f s none i j a o w = absurd (omega (arith, o.0, o.1.0, o.1.1, none))

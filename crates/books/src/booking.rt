@@ -8,14 +8,14 @@ ghost use Rattle.books.specs.Linked.{orderly};
 use crate::book::Book;
 use crate::forms::{forms_where, with_form};
 use crate::frame::Frame;
-use crate::store::Store;
+use crate::store::{Serves, Store};
 use crate::stored::Stored;
 use crate::table::fits_sizes;
 use crate::wording::Wording;
 use rules::{Refusal, Rule, Tested, has_form};
 use std::marker::PhantomData;
 
-impl<R: Tested, S: Store<R>> Stored<R, S> {
+impl<R: Tested, S: Store> Stored<R, S> {
     // A book with these labels and every pair of live forms.
     fn of(frame: Frame) -> Self
         ensures frame { result.frame ≡ frame }
@@ -47,7 +47,7 @@ impl<R: Tested, S: Store<R>> Stored<R, S> {
     }
 }
 
-impl<R: Tested, S: Store<R>> Book for Stored<R, S> {
+impl<R: Tested, S: Serves<R>> Book for Stored<R, S> {
     type R = R;
 
     const RULE: u16 = R::NUMBER;
@@ -69,11 +69,15 @@ impl<R: Tested, S: Store<R>> Book for Stored<R, S> {
     ghost holds_fewer = { S.holds_fewer };
 
     fn new() -> Self {
-        Self::of(Frame::none())
+        Stored {
+            frame: Frame::none(),
+            rows: S::every(),
+            rule: PhantomData,
+        }
     }
 
     fn empty(&mut self) {
-        *self = Self::new();
+        self.frame = Frame::none();
     }
 
     fn open(&mut self, sizes: &[u8]) -> Result<(), Refusal> {
@@ -106,14 +110,14 @@ impl<R: Tested, S: Store<R>> Book for Stored<R, S> {
         if w.label <= j {
             self.forward(w, j)
         } else {
-            forms_where(|form| self.permitted(w, Wording { label: j, form }))
+            forms_where(|form| has_form(self.forward(Wording { label: j, form }, w.label), w.form))
         }
     }
 
     fn strike(&mut self, w: Wording) -> Result<(), Refusal> {
-        let frame = self.frame.struck(w)?;
-        self.rows.follow(&frame, w.label);
-        self.frame = frame;
+        self.frame.can_strike(w)?;
+        self.frame.strike(w);
+        self.rows.follow(&self.frame, w.label);
         Ok(())
     }
 

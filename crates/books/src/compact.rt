@@ -6,19 +6,20 @@ ghost use Rattle.books.specs.declared.label_pair.LabelPair.{LabelPair};
 ghost use Rattle.books.specs.Frames.{all_rows, book_view};
 ghost use Rattle.books.specs.Compact.{Tailed, Tails, RowHeld, Exact, KeptFor, pairs, uncut, is_pair, Mending};
 ghost use Rattle.books.specs.Answers.{AnswersPairs};
-ghost use Rattle.books.specs.Tails.{tails_closed, tails_common, tails_fewer};
+ghost use Rattle.books.specs.Tails.{tails_closed, tails_common, tails_fewer, exact_none};
 
+use crate::book::Book;
 use crate::compact_row::CompactRow;
 use crate::forms::{ALL_FORMS, NO_FORM, both, without};
 use crate::frame::Frame;
 use crate::framing::ROWS;
 use crate::label_pair::LabelPair;
 use crate::rows::Rows;
-use crate::store::Store;
+use crate::store::{Serves, Store};
 use crate::stored::Stored;
 use crate::wording::Wording;
-use rules::Greatest;
 use rules::limits::MAX_FORMS;
+use rules::{Greatest, Rule};
 
 // The rows of all tables, two bytes each.
 type CompactRows = Rows<CompactRow>;
@@ -52,15 +53,6 @@ fn row_held(frame: &Frame, labels: LabelPair, form: u8, rows: &[u16; 16]) -> boo
 }
 
 impl CompactRows {
-    // Rows with every form, before any is mended.
-    fn every() -> Self
-        ensures { (n b : ℕ) → n < all_rows → Within max_forms b → T (pairs result n b) }
-    {
-        Rows {
-            rows: [CompactRow::of(ALL_FORMS); ROWS],
-        }
-    }
-
     // Mends the table of two labels, with given rows to keep to.
     fn mend(&mut self, frame: &Frame, labels: LabelPair, given: &[u16; 16])
         ensures { Mending frame.now given.now self.old self.new (is_pair labels.first labels.second) }
@@ -87,6 +79,17 @@ impl CompactRows {
 }
 
 impl CompactBook {
+    /// The number of its rule, where a constant is wanted: as a constant of `Book` it is one for every store, and so can
+    /// stand in no pattern and no other constant.
+    pub const RULE: u16 = Greatest::NUMBER;
+
+    /// The same number by a call, which promises that it is the one that laws speak of.
+    pub fn rule_number() -> u16
+        ensures { result ≡ ⟦<Self as Book>⟧.RULE }
+    {
+        Self::RULE
+    }
+
     /// The two numbers that are kept for a wording towards a label after its own: the first form of that label that is
     /// permitted with it, and the second, each 17 where there is none.
     pub fn kept(&self, w: Wording, j: u8) -> Option<(u8, u8)>
@@ -101,7 +104,7 @@ impl CompactBook {
     }
 }
 
-impl Store<Greatest> for CompactRows {
+impl Store for CompactRows {
     ghost cell = { pairs };
 
     ghost holds = { Tails };
@@ -109,11 +112,19 @@ impl Store<Greatest> for CompactRows {
     // The stored numbers are the first two permitted forms of their row.
     ghost keeps = { Exact };
 
-    ghost holds_closed = { tails_closed };
+    ghost keeps_none = { exact_none };
 
     ghost holds_common = { tails_common };
 
     ghost holds_fewer = { tails_fewer };
+
+    fn every() -> Self
+        ensures { (n b : ℕ) → n < all_rows → Within max_forms b → T (pairs result n b) }
+    {
+        Rows {
+            rows: [CompactRow::of(ALL_FORMS); ROWS],
+        }
+    }
 
     fn all(frame: &Frame) -> Self {
         let mut rows = Self::every();
@@ -142,4 +153,8 @@ impl Store<Greatest> for CompactRows {
     fn narrow(&mut self, frame: &Frame, labels: LabelPair, rows: &[u16; 16]) {
         self.mend(frame, labels, rows);
     }
+}
+
+impl Serves<Greatest> for CompactRows {
+    ghost holds_closed = { tails_closed };
 }

@@ -2,7 +2,7 @@
 ghost use Rattle.std.specs.Prelude.{◌≡◌, ℕ, ◌+◌, ◌≤◌, ◌↔◌, not, ◌&&◌, ◌==◌, Decides, IsTrue, EachIndex, slice_index};
 ghost use Rattle.rules.specs.Limits.{Within, max_forms};
 ghost use Rattle.rules.specs.Tables.{in_row};
-ghost use Rattle.books.specs.Frames.{within, frame_size, frame_live, LabelOf, PairOf, FrameFrom, StruckFrom, table_at, row_at, all_rows};
+ghost use Rattle.books.specs.Frames.{within, frame_size, frame_live, LabelOf, PairOf, FrameFrom, FrameStruck, StrikeJudged, table_at, row_at, all_rows};
 
 use crate::forms::{up_to, with_form, without};
 use crate::frame::Frame;
@@ -26,18 +26,6 @@ impl Label {
         Label {
             size,
             live: up_to(size),
-        }
-    }
-
-    // The label without one of its forms.
-    fn struck(self, form: u8) -> Label
-        requires { Within self.size form }
-        ensures size { result.size ≡ self.size }
-        ensures live { (a : ℕ) → in_row result.live a ≡ (in_row self.live a && not (a == form)) }
-    {
-        Label {
-            size: self.size,
-            live: without(self.live, with_form(0, form)),
         }
     }
 }
@@ -152,19 +140,28 @@ impl Frame {
         has_form(self.forms(w.label), w.form)
     }
 
-    // The frame with a form not live, if the panel has that form.
-    pub(crate) fn struck(&self, w: Wording) -> Result<Frame, Refusal>
-        ensures { StruckFrom self.now w.label w.form result }
+    // Why a strike would be refused, if the panel lacks the form.
+    pub(crate) fn can_strike(&self, w: Wording) -> Result<(), Refusal>
+        ensures { StrikeJudged self.now w.label w.form result }
     {
-        let label = self.label(w.label).ok_or(Refusal::NoLabel)?;
-        if !(1..=label.size).contains(&w.form) {
+        if !self.has_label(w.label) {
+            return Err(Refusal::NoLabel);
+        }
+        // The size alone is read: a copy of the label would wait for the strike before to be written.
+        let size = self.labels[usize::from(w.label) - 1].size;
+        if !(1..=size).contains(&w.form) {
             return Err(Refusal::NoForm);
         }
-        let mut labels = self.labels;
-        labels[usize::from(w.label) - 1] = label.struck(w.form);
-        Ok(Frame {
-            count: self.count,
-            labels,
-        })
+        Ok(())
+    }
+
+    // Makes a form not live. It is written where it stands: a copy of the frame would cost more than the strike.
+    pub(crate) fn strike(&mut self, w: Wording)
+        requires label { Within self.old.count w.label }
+        requires form { Within (frame_size self.old w.label) w.form }
+        ensures { FrameStruck self.old w.label w.form self.new }
+    {
+        let k = usize::from(w.label) - 1;
+        self.labels[k].live = without(self.labels[k].live, with_form(0, w.form));
     }
 }

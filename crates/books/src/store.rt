@@ -10,8 +10,8 @@ use crate::frame::Frame;
 use crate::label_pair::LabelPair;
 use rules::{Rule, Tested};
 
-/// How a book for the rule `R` keeps the rows of all its tables, each at its place.
-pub trait Store<R: Tested>: Sized + Drop {
+/// How a book keeps the rows of all its tables, each at its place.
+pub trait Store: Sized + Drop {
     /// cell s n b: the row at n has form b, as far as b is live.
     ghost cell: { Self → ℕ → ℕ → Bool };
 
@@ -21,7 +21,10 @@ pub trait Store<R: Tested>: Sized + Drop {
     /// What it keeps true of its rows, with the frame of its book, from call to call.
     ghost keeps: { Frame → Self → Type 0 };
 
-    /// Rows with every live form.
+    /// Rows with every form, for a book of no labels.
+    fn every() -> Self;
+
+    /// Rows with every live form of the frame.
     fn all(frame: &Frame) -> Self
         ensures keeps { keeps frame.now result }
         ensures whole { Whole frame.now (cell result) };
@@ -49,9 +52,16 @@ pub trait Store<R: Tested>: Sized + Drop {
         ensures keeps { keeps frame.now self.old → keeps frame.now self.new }
         ensures narrowed { RowsNarrowed frame.now labels.first labels.second (permits rows.now) (cell self.old) (cell self.new) };
 
-    ghost holds_closed: { HoldsClosed R.Rule.voted holds };
+    /// With a frame of no labels there is nothing to keep.
+    ghost keeps_none: { (f : Frame) (s : Self) → f.count ≡ 0 → keeps f s };
 
     ghost holds_common: { HoldsCommon holds };
 
     ghost holds_fewer: { HoldsFewer holds };
+}
+
+/// A store that holds what the rule `R` needs of its book. It stands apart from `Store`, whose two impls name no rule: so a
+/// struct of a maker's may hold a book for any rule.
+pub trait Serves<R: Tested>: Store {
+    ghost holds_closed: { HoldsClosed R.Rule.voted Self.Store.holds };
 }

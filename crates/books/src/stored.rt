@@ -5,7 +5,7 @@ use std::marker::PhantomData;
 
 /// A book for the rule `R` that keeps its rows in the store `S`.
 #[derive(Drop)]
-pub struct Stored<R: Tested, S: Store<R>> {
+pub struct Stored<R: Tested, S: Store> {
     pub(crate) frame: Frame,
     pub(crate) rows: S,
     pub(crate) rule: PhantomData<R>,

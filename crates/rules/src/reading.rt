@@ -1,5 +1,5 @@
 // What rows permit, and whether they are a table.
-ghost use Rattle.std.specs.Prelude.{◌≡◌, ◌/◌, ◌^◌, ◌≤◌, ◌↔◌, None, Some, MatchOption, Decides, IsTrue, EachIndex, slice_index};
+ghost use Rattle.std.specs.Prelude.{◌≡◌, ◌/◌, ◌^◌, ◌≤◌, ◌↔◌, false, true, None, Some, MatchOption, Decides, IsTrue, EachIndex, slice_index};
 ghost use Rattle.rules.specs.Tables.{in_row, permits, EndsAt, IsTable};
 ghost use Rattle.rules.specs.Lending.{pairs_of, Has, Checked};
 ghost use Rattle.rules.specs.declared.pair.Pair.{Pair};
@@ -83,11 +83,11 @@ impl Table<'_> {
     }
 
     // An answer to a pair of the table, if any has one. They are asked row by row and form by form.
-    pub(crate) fn find_map<X, F: Fn(Pair) -> Option<X>>(&self, answer: F) -> Option<X>
-        requires { (p : Pair) → Has (pairs_of self.now) p → F.pre answer p }
+    pub(crate) fn find_map<X, F: Fn(Pair) -> Option<X>>(self, answer: F) -> Option<X>
+        requires { (p : Pair) → Has (pairs_of self) p → F.pre answer p }
         ensures { MatchOption result
-            ((p : Pair) → Has (pairs_of self.now) p → F.post answer p None)
-            (λ x. (p : Pair) × (Has (pairs_of self.now) p × F.post answer p (Some x))) }
+            ((p : Pair) → Has (pairs_of self.entry) p → F.post answer p None)
+            (λ x. (p : Pair) × (Has (pairs_of self.entry) p × F.post answer p (Some x))) }
     {
         for a in 1..=MAX_FORMS {
             for b in 1..=MAX_FORMS {
@@ -99,5 +99,20 @@ impl Table<'_> {
             }
         }
         None
+    }
+
+    // A pair of the table that is picked, if any is.
+    pub(crate) fn find<F: Fn(Pair) -> bool>(self, picks: F) -> Option<Pair>
+        requires { (p : Pair) → Has (pairs_of self) p → F.pre picks p }
+        ensures { MatchOption result
+            ((p : Pair) → Has (pairs_of self.entry) p → F.post picks p false)
+            (λ p. Has (pairs_of self.entry) p × F.post picks p true) }
+    {
+        self.find_map(
+            move |pair|
+                requires { F.pre picks pair }
+                ensures { MatchOption result (F.post picks pair false) (λ p. (p ≡ pair) × F.post picks pair true) }
+            { picks(pair).then_some(pair) },
+        )
     }
 }

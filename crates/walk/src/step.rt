@@ -1,3 +1,5 @@
+ghost use Rattle.walk.specs.Printing.{answer_text};
+
 use crate::samples::{WITH_PARTNERS, WITHOUT_PARTNER};
 use books::Wording;
 use listing::{FormList, RowList, SizeList};
@@ -44,7 +46,10 @@ impl fmt::Display for Step {
     }
 }
 
+// `walk` promises the answer; this promises what is printed of it.
 impl fmt::Display for Answer {
+    ghost output = { answer_text };
+
     fn fmt<W: fmt::Write>(&self, f: &mut fmt::Formatter<W>) -> fmt::Result {
         match *self {
             Answer::Outcome(outcome) => write!(f, "{}", number_of(&outcome)),

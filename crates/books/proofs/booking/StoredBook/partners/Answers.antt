@@ -9,5 +9,6 @@ returns-else-w-j g c =
     let s = c.args.self.now in
     let cell = g.S.Store.cell s.rows in
     let v = book_view s.frame cell in
+    let o = orderly s.frame cell in
     let w = c.args.w in
-    c.forms_where.ensures (v.permitted w.label w.form c.args.j) (λ b r post. search rules) (partner_range v (orderly s.frame cell) w.label w.form c.args.j)
+    c.forms_where.ensures (v.permitted w.label w.form c.args.j) (λ b r post. search (rules, o.either_order w.label w.form c.args.j b)) (partner_range v o w.label w.form c.args.j)

@@ -1,6 +1,5 @@
 use Rattle.std.proofs.Common.{rules}
-use Rattle.rules.proofs.Options.{match_option}
 use Rattle.rules.proofs.search.fn.find_witness.fn.find_map.find_map.Goals as goal
 
-pub returns : goal.returns
-returns g c = match_option c.find_map.result (λ none e f h. search (rules, none (e, f) h)) (λ x found. search (rules, found)) c.find_map.ensures
+pub returns-in_err-three : goal.returns-in_err-three
+returns-in_err-three g c = rw c.from_residual.ensures (λ first second e f h. search (rules, c.in_err-three.ensures (e, f) h, first, second))

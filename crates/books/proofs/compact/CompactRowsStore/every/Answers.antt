@@ -7,7 +7,7 @@ use Rattle.books.specs.declared.compact_row.CompactRow.{CompactRow}
 use Rattle.books.specs.Compact.{reads, empty_row}
 use Rattle.books.proofs.Bits.{in_row_all}
 use Rattle.books.proofs.FirstTwo.{read_back}
-use Rattle.books.proofs.compact.CompactRows.every.Goals as goal
+use Rattle.books.proofs.compact.CompactRowsStore.every.Goals as goal
 
 pub returns : goal.returns
 returns c n b inside form =

@@ -7,7 +7,7 @@ use Rattle.books.specs.Labels.{live_form}
 use Rattle.books.proofs.Places.{table_room}
 use Rattle.books.proofs.Mended.{mended_exact, mended_cell}
 use Rattle.books.proofs.Uncut.{all_tailed, all_there}
-use Rattle.books.proofs.compact.CompactRowsStoreGreatest.all.Goals as goal
+use Rattle.books.proofs.compact.CompactRowsStore.all.Goals as goal
 
 -- every table is mended
 mended : (c : goal.After-mend_where) → Mending c.args.frame.now uncut c.every-rows.result c.mend_where.new.self (λ p q. true)

@@ -1,5 +1,5 @@
 use Rattle.books.proofs.Narrowed.{exact_narrowed, cells_here, cells_elsewhere}
-use Rattle.books.proofs.compact.CompactRowsStoreGreatest.narrow.Goals as goal
+use Rattle.books.proofs.compact.CompactRowsStore.narrow.Goals as goal
 
 pub returns-clause-keeps : goal.returns-clause-keeps
 returns-clause-keeps c =

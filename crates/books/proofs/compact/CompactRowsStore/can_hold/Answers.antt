@@ -6,7 +6,7 @@ use Rattle.std.proofs.lemmas.List.FromFn.{get_or-range_with_len}
 use Rattle.rules.specs.Limits.{Within, max_forms}
 use Rattle.books.specs.Compact.{RowHeld}
 use Rattle.books.specs.Labels.{live_form}
-use Rattle.books.proofs.compact.CompactRowsStoreGreatest.can_hold.Goals as goal
+use Rattle.books.proofs.compact.CompactRowsStore.can_hold.Goals as goal
 
 -- the forms that a label can have
 abbrev forms : List ℕ

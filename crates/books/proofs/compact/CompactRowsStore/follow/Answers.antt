@@ -1,7 +1,7 @@
 use Rattle.std.proofs.Common.{◌||◌, eqb, rules}
 use Rattle.books.specs.Compact.{uncut, Mending}
 use Rattle.books.proofs.Struck.{exact_struck, cells_struck}
-use Rattle.books.proofs.compact.CompactRowsStoreGreatest.follow.Goals as goal
+use Rattle.books.proofs.compact.CompactRowsStore.follow.Goals as goal
 
 -- the tables of the label are mended, and no others
 mended : (c : goal.After-mend_where) → Mending c.args.frame.now uncut c.args.self.now c.mend_where.new.self (λ p q. eqb q c.args.i || eqb p c.args.i)
