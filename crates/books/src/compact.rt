@@ -79,8 +79,8 @@ impl CompactRows {
 }
 
 impl CompactBook {
-    /// The number of its rule, where a constant is wanted: as a constant of `Book` it is one for every store, and so can
-    /// stand in no pattern and no other constant.
+    /// The number of its rule, for patterns and other constants: `RULE` of `Book` is given by one impl for all stores, and a
+    /// constant of such an impl can stand in neither.
     pub const RULE: u16 = Greatest::NUMBER;
 
     /// The same number by a call, which promises that it is the one that laws speak of.
@@ -118,9 +118,7 @@ impl Store for CompactRows {
 
     ghost holds_fewer = { tails_fewer };
 
-    fn every() -> Self
-        ensures { (n b : ℕ) → n < all_rows → Within max_forms b → T (pairs result n b) }
-    {
+    fn every() -> Self {
         Rows {
             rows: [CompactRow::of(ALL_FORMS); ROWS],
         }

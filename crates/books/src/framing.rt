@@ -147,7 +147,7 @@ impl Frame {
         if !self.has_label(w.label) {
             return Err(Refusal::NoLabel);
         }
-        // The size alone is read: a copy of the label would wait for the strike before to be written.
+        // The size alone is read, since copying a label that a strike has just written to is slower.
         let size = self.labels[usize::from(w.label) - 1].size;
         if !(1..=size).contains(&w.form) {
             return Err(Refusal::NoForm);

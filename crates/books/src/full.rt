@@ -49,9 +49,7 @@ impl Store for FullRows {
 
     ghost holds_fewer = { Prim.search rules };
 
-    fn every() -> Self
-        ensures { (n b : ℕ) → n < all_rows → Within max_forms b → T (bits result n b) }
-    {
+    fn every() -> Self {
         Rows {
             rows: [ALL_FORMS; ROWS],
         }

@@ -1,4 +1,5 @@
-ghost use Rattle.std.specs.Prelude.{◌≡◌, ℕ, ◌<◌, Bool, ◌&&◌, Decides};
+ghost use Rattle.std.specs.Prelude.{◌≡◌, ℕ, ◌<◌, Bool, ◌&&◌, T, Decides};
+ghost use Rattle.rules.specs.Limits.{Within, max_forms};
 ghost use Rattle.rules.specs.Tables.{in_row, permits};
 ghost use Rattle.books.specs.declared.frame.Frame.{Frame};
 ghost use Rattle.books.specs.Changes.{Ordered};
@@ -22,7 +23,8 @@ pub trait Store: Sized + Drop {
     ghost keeps: { Frame → Self → Type 0 };
 
     /// Rows with every form, for a book of no labels.
-    fn every() -> Self;
+    fn every() -> Self
+        ensures { (n b : ℕ) → n < all_rows → Within max_forms b → T (cell result n b) };
 
     /// Rows with every live form of the frame.
     fn all(frame: &Frame) -> Self
@@ -60,8 +62,8 @@ pub trait Store: Sized + Drop {
     ghost holds_fewer: { HoldsFewer holds };
 }
 
-/// A store that holds what the rule `R` needs of its book. It stands apart from `Store`, whose two impls name no rule: so a
-/// struct of a maker's may hold a book for any rule.
+/// A store that holds what the rule `R` needs of its book. It stands apart from `Store`, so that the store of the full book is
+/// one for every rule, and a maker's struct may hold a `FullBook<R>`.
 pub trait Serves<R: Tested>: Store {
     ghost holds_closed: { HoldsClosed R.Rule.voted Self.Store.holds };
 }

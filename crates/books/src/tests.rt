@@ -18,6 +18,7 @@ fn numbers(rt: HostRuntime) {
     assert_eq!(rt; FullBook::<Greatest>::RULE, 1);
     assert_eq!(rt; FullBook::<Middle>::RULE, 2);
     assert_eq!(rt; CompactBook::RULE, 1);
+    assert_eq!(rt; <CompactBook as Book>::RULE, 1);
 }
 
 // The two numbers that the compact book keeps for a form of label 1 towards label 2: their rows stand first.

@@ -39,7 +39,7 @@ fn votes_out<R: Rule>(table: Table, one: Pair, two: Pair, three: Pair) -> bool
 }
 
 /// A witness against the table: there is one unless it is closed. Every three pairs are tried, in every order.
-// The closures have clauses: without them the check does not carry what an inner search finds to the outer one.
+// The two outer closures have clauses: without them the check does not carry what an inner search finds to the outer one.
 pub fn find_witness<R: Rule>(table: &Table) -> Option<Witness>
     ensures { MatchOption result (Closed R.voted (pairs_of table.now)) (Breaks R.voted (pairs_of table.now)) }
 {

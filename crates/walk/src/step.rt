@@ -46,7 +46,7 @@ impl fmt::Display for Step {
     }
 }
 
-// `walk` promises the answer; this promises what is printed of it.
+// `walk` promises the answer; this promises how it is written, but for the forms of a row.
 impl fmt::Display for Answer {
     ghost output = { answer_text };
 
